@@ -1,0 +1,14 @@
+pub mod Utf8
+pub mod ByPlace
+pub mod Lists
+pub mod Strings
+pub mod Rules
+pub mod Code
+pub mod Bytes
+pub mod Offsets
+pub mod Encode
+pub mod Readers
+pub mod Decode
+pub mod Resume
+pub mod ByList
+pub mod Landing

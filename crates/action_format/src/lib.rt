@@ -1,0 +1,1 @@
+// Action bytes, written and read: definitions and theorems only, in specs/ and proofs/.

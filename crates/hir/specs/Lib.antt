@@ -1,0 +1,2 @@
+pub mod Hir
+pub mod Tree

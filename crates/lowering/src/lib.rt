@@ -1,0 +1,1 @@
+// The definition of lowering is in specs/, its theorems in proofs/.

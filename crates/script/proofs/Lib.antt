@@ -1,0 +1,6 @@
+pub mod Tables
+pub mod RecordLaws
+pub mod RuleLaws
+pub mod WrittenRows
+pub mod WrittenBytes
+pub mod Written

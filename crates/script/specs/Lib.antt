@@ -1,0 +1,5 @@
+pub mod Forms
+pub mod FormCode
+pub mod Rules
+pub mod Resolve
+pub mod Write

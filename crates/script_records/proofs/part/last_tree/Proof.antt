@@ -1,0 +1,38 @@
+-- `last_tree` meets its contract.
+use Rattle.script_records.proofs.Trees.{tree-made}
+use borrow.Author.Needs.{needs}
+use Rattle.script_records.proofs.part.last_tree.Statement.{statement}
+use Rattle.script_records.proofs.part.last_tree.Tie as tie
+
+minus-requires : tie.Need-minus-requires
+minus-requires c κs = search needs
+
+row-at-requires : tie.Need-row-at-requires
+row-at-requires c κs = search needs
+
+span-requires : tie.Need-span-requires
+span-requires c κs = search needs
+
+minus-requires-2 : tie.Need-minus-requires-2
+minus-requires-2 c κs = search needs
+
+minus-requires-3 : tie.Need-minus-requires-3
+minus-requires-3 c κs = search needs
+
+minus-requires-4 : tie.Need-minus-requires-4
+minus-requires-4 c κs = search needs
+
+returns : tie.Need-returns
+returns c = tree-made _ (c .before .before .before .before .before .before .before .args .p) (c .before .before .before .before .before .minus .ensures) (c .before .before .before .before .row-at .ensures) (c .before .before .before .span .ensures) (c .before .before .minus2 .ensures) (c .before .minus3 .ensures) (c .minus4 .ensures)
+
+pub last-tree-spec : {M : Type 1} → statement M
+last-tree-spec =
+    tie.close
+    (tie.spec
+    minus-requires
+    row-at-requires
+    span-requires
+    minus-requires-2
+    minus-requires-3
+    minus-requires-4
+    returns)

@@ -1,0 +1,4 @@
+pub mod Table
+pub mod Same
+pub mod Search
+pub mod Laws

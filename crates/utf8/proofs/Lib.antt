@@ -1,0 +1,4 @@
+pub mod Forms
+pub mod Owing
+pub mod Grammar
+pub mod Laws

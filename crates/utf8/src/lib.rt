@@ -1,0 +1,77 @@
+ghost use mathlib.Core.Path.{_≡_};
+ghost use mathlib.Core.List.{[]};
+ghost use Rattle.utf8.specs.Utf8.{utf8, next};
+ghost use Rattle.utf8.specs.State.{ranges, rangesAfter};
+
+// What a char that has started still owes: as many bytes as `tails`, the first of them from `low` to `high`, the others from 80 to BF.
+struct Owed {
+    tails: u8,
+    low: u8,
+    high: u8,
+}
+
+// A byte is taken, and leaves what is owed after it, or it cannot stand there.
+enum Step {
+    Taken(Owed),
+    Refused,
+}
+
+fn taken(tails: u8, low: u8, high: u8) -> Step
+    ensures { λ r. ⌜ r ≡ Step.Taken (record { tails = tails; low = low; high = high }) ⌝ }
+{
+    Step::Taken(Owed { tails, low, high })
+}
+
+// A first byte: the forms of RFC 3629's UTF8-char.
+fn start(b: u8) -> Step
+    ensures { λ r. ⌜ rangesAfter r ≡ next [] b ⌝ }
+{
+    match b {
+        0x00..=0x7F => taken(0, 0x80, 0xBF),
+        0xC2..=0xDF => taken(1, 0x80, 0xBF),
+        0xE0 => taken(2, 0xA0, 0xBF),
+        0xE1..=0xEC => taken(2, 0x80, 0xBF),
+        0xED => taken(2, 0x80, 0x9F),
+        0xEE..=0xEF => taken(2, 0x80, 0xBF),
+        0xF0 => taken(3, 0x90, 0xBF),
+        0xF1..=0xF3 => taken(3, 0x80, 0xBF),
+        0xF4 => taken(3, 0x80, 0x8F),
+        _ => Step::Refused,
+    }
+}
+
+// The byte after a state.
+fn next(owed: Owed, b: u8) -> Step
+    ensures { λ r. ⌜ rangesAfter r ≡ next (ranges owed) b ⌝ }
+{
+    if owed.tails == 0 {
+        return start(b);
+    }
+    if b < owed.low {
+        return Step::Refused;
+    }
+    if owed.high < b {
+        return Step::Refused;
+    }
+    taken(owed.tails - 1, 0x80, 0xBF)
+}
+
+// Whether the bytes are UTF-8 (RFC 3629).
+pub fn is_utf8(s: &[u8]) -> bool
+    ensures { λ r. ⌜ r ≡ utf8 (now (s .entry)) ⌝ }
+{
+    let mut owed = Owed {
+        tails: 0,
+        low: 0x80,
+        high: 0xBF,
+    };
+    let mut i: usize = 0;
+    while i < s.len() {
+        match next(owed, s[i]) {
+            Step::Taken(rest) => owed = rest,
+            Step::Refused => return false,
+        }
+        i += 1;
+    }
+    owed.tails == 0
+}
