@@ -8,7 +8,7 @@ use native.Mathlib.Omega.{arith}
 use lib.Dec.{T, leb, leb→le}
 use lib.ListN.{length, length-append}
 use Rattle.pcode.specs.Pcode.{Action}
-use Rattle.action_format.specs.Utf8.{utf8}
+use Rattle.utf8.specs.Utf8.{utf8}
 use Rattle.action_format.specs.Lists.{Lists, all-lists, all, all-actions}
 use Rattle.action_format.specs.Strings.{strings, no-zero, zero-free}
 use Rattle.action_format.specs.Rules.{fits, list-fits, pool-first, pool-count, Limits, within, shaped, OfLowering}

@@ -3,12 +3,12 @@ use Prim.Native.Nat.{ℕ}
 use mathlib.Core.Path.{_≡_, refl}
 use mathlib.Core.List.{List, [], _∷_, _++_, map}
 use mathlib.Core.Bool.{true, false}
-use mathlib.Core.Option.{none, some}
+use mathlib.Core.Option.{none, some, Option·elim}
 use lib.ListN.{replicate}
 use Rattle.hir.specs.Hir.{Str}
 use Rattle.pcode.specs.declared.Op.the-variants.{GetVariable, SetVariable, Not, Pop, Call}
 use Rattle.pcode.specs.Pcode.{Action, Null, Undefined, True, False, String, Integer, Float, Register, Constant, DefineFunction, DefineFunction2, Jump, If, op, ConstantPool, StoreRegister, GotoFrame, GotoFrame2, GotoLabel, plain, push, branch, define, action, mark}
-use Rattle.action_format.specs.Utf8.{utf8}
+use Rattle.utf8.specs.Utf8.{started, next, completes, utf8}
 use Rattle.action_format.specs.Lists.{Lists, lists-by-place}
 use Rattle.action_format.specs.Rules.{Limits, limits-01}
 use Rattle.action_format.specs.Code.{nest}
@@ -120,7 +120,7 @@ bytes-of (bytes b) = b
 bytes-of (refused n) = []
 
 read-back : map (λ (r : Row). decode limits-01 (bytes-of (r .answer))) readable ≡ map (λ (r : Row). some (r .lists)) readable
-unfolding decode utf8 word zero-ended stored code-bytes position read-byte read-word read-string read-bytes read-value read-record read-code place-at
+unfolding decode utf8 completes next started Option·elim word zero-ended stored code-bytes position read-byte read-word read-string read-bytes read-value read-record read-code place-at
 read-back = refl
 
 -- a record after an empty pool, with End
@@ -169,7 +169,7 @@ refused-bytes =
     one-string (0xFF ∷ []) [] ∷ []
 
 not-read : map (decode limits-01) refused-bytes ≡ map (λ _. none) refused-bytes
-unfolding decode utf8 word zero-ended stored code-bytes position read-byte read-word read-string read-bytes read-value read-record read-code place-at
+unfolding decode utf8 completes next started Option·elim word zero-ended stored code-bytes position read-byte read-word read-string read-bytes read-value read-record read-code place-at
 not-read = refl
 
 -- the limits are met: 2 actions with the pool, 3 values
@@ -177,7 +177,7 @@ within-limits : map (λ (n : Limits). decode n (after-pool (0x96 ∷ 3 ∷ 0 ∷
     record { actions = 2; values = 3 } ∷
     record { actions = 1; values = 3 } ∷
     record { actions = 2; values = 2 } ∷ []) ≡ some (only (pool [] ∷ push (Null ∷ Null ∷ Null ∷ []) ∷ [])) ∷ none ∷ none ∷ []
-unfolding decode utf8 word zero-ended stored code-bytes position read-byte read-word read-string read-bytes read-value read-record read-code place-at
+unfolding decode utf8 completes next started Option·elim word zero-ended stored code-bytes position read-byte read-word read-string read-bytes read-value read-record read-code place-at
 within-limits = refl
 
 -- the edges of RFC 3629's grammar
@@ -185,5 +185,5 @@ well-formed : map utf8 (
     (0x7F ∷ 0xC2 ∷ 0x80 ∷ []) ∷ (0xE0 ∷ 0xA0 ∷ 0x80 ∷ 0xED ∷ 0x9F ∷ 0xBF ∷ []) ∷ (0xEE ∷ 0x80 ∷ 0x80 ∷ 0xF0 ∷ 0x90 ∷ 0x80 ∷ 0x80 ∷ 0xF4 ∷ 0x8F ∷ 0xBF ∷ 0xBF ∷ []) ∷
     (0x80 ∷ []) ∷ (0xC1 ∷ 0x80 ∷ []) ∷ (0xC2 ∷ []) ∷ (0xE0 ∷ 0x9F ∷ 0xBF ∷ []) ∷ (0xED ∷ 0xA0 ∷ 0x80 ∷ []) ∷ (0xF0 ∷ 0x8F ∷ 0xBF ∷ 0xBF ∷ []) ∷ (0xF4 ∷ 0x90 ∷ 0x80 ∷ 0x80 ∷ []) ∷
     (0xF5 ∷ 0x80 ∷ 0x80 ∷ 0x80 ∷ []) ∷ []) ≡ true ∷ true ∷ true ∷ false ∷ false ∷ false ∷ false ∷ false ∷ false ∷ false ∷ false ∷ []
-unfolding utf8
+unfolding utf8 completes next started Option·elim
 well-formed = refl

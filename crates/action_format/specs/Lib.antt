@@ -1,4 +1,3 @@
-pub mod Utf8
 pub mod ByPlace
 pub mod Lists
 pub mod Strings

@@ -4,7 +4,7 @@ use mathlib.Core.List.{List, [], _∷_, _++_, map}
 use mathlib.Core.Bool.{Bool, true, false}
 use Rattle.hir.specs.Hir.{Str}
 use Rattle.pcode.specs.Pcode.{Value, Param, Header, Plain, Action, Null, Undefined, True, False, String, Integer, Float, Register, Constant, DefineFunction, DefineFunction2, op, ConstantPool, StoreRegister, GotoFrame, GotoFrame2, GotoLabel, plain, push, branch, define}
-use Rattle.action_format.specs.Utf8.{utf8}
+use Rattle.utf8.specs.Utf8.{utf8}
 use Rattle.action_format.specs.Lists.{Lists, all, all-actions}
 
 -- the strings of an action

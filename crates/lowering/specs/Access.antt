@@ -6,8 +6,7 @@ use mathlib.Core.Option.{Option, none, some}
 use Rattle.hir.specs.Hir.{Str, ConstantKind}
 use Rattle.pcode.specs.declared.Op.the-variants.{GetVariable, GetMember, GetProperty, SetVariable, SetMember, SetProperty, Pop, Delete, Delete2, NewObject, NewMethod, CallFunction, CallMethod}
 use Rattle.pcode.specs.Pcode.{Value, Null, Undefined, True, False, Integer, Float, op, StoreRegister, up, down}
-use Rattle.lowering.specs.Text.{bytes}
-use Rattle.lowering.specs.SpecialProperties.{same, get-special-property}
+use Rattle.special_properties.specs.SpecialProperties.{getSpecialProperty, null, undefined, sameBytes}
 use Rattle.lowering.specs.Builder.{M, Step, _>>_, pure, refuse, done, action, plain-action, push, push-string}
 
 pub data Access : Type 0 where
@@ -37,10 +36,10 @@ for-name false false name = push-string name gives Variable
 
 abbrev pub for-property : Str → Option ℕ → M Access
 for-property name (some p) = push-string [] >> push (Integer p) gives SpecialProperty
-for-property name none = for-name (same name (bytes "null")) (same name (bytes "undefined")) name
+for-property name none = for-name (sameBytes name null) (sameBytes name undefined) name
 
 abbrev pub for-identifier : Str → M Access
-for-identifier name = for-property name (get-special-property name)
+for-identifier name = for-property name (getSpecialProperty name)
 
 abbrev pub boolean : Bool → Value
 boolean true = True

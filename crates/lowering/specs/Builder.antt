@@ -9,7 +9,8 @@ use Rattle.hir.specs.Hir.{Str}
 use Rattle.pcode.specs.declared.Op.{Op}
 use Rattle.pcode.specs.declared.Op.the-variants.{Pop}
 use Rattle.pcode.specs.Pcode.{Value, Plain, Header, Action, Item, Delta, up, down, moved, rowOf, DefineFunction, DefineFunction2}
-use Rattle.lowering.specs.SpecialProperties.{same, find}
+use Rattle.special_properties.specs.SpecialProperties.{sameBytes}
+use Rattle.lowering.specs.Strings.{find}
 
 -- how many actions (the pool is the first), push values and labels a script may have
 pub record Limits : Type 0 where
@@ -195,7 +196,7 @@ add-found str s (some i) = ok (Value.Constant i) s
 add-found str s none = add-new str s (joins s str)
 
 unfoldable pub add : Str → M Value
-add str s = add-found str s (find (same str) 0 (s .constants))
+add str s = add-found str s (find (sameBytes str) 0 (s .constants))
 
 abbrev pub push-string : Str → Step
 push-string str = add str >>= push

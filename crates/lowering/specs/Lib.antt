@@ -1,5 +1,4 @@
-pub mod Text
-pub mod SpecialProperties
+pub mod Strings
 pub mod Builder
 pub mod Access
 pub mod Operators

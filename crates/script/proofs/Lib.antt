@@ -4,3 +4,4 @@ pub mod RuleLaws
 pub mod WrittenRows
 pub mod WrittenBytes
 pub mod Written
+pub mod Numbers

@@ -26,7 +26,7 @@ use Rattle.script_records.proofs.LayoutLaws.{rows-length}
 use Rattle.script.proofs.WrittenRows.{both, first, second, forest-step, parted-step, forest-count, rows-part, rows-tree, tree-size, fits-part, At, at-left, at-right, rows-count, rows-forest, rows-hold, root-written}
 use Rattle.script.proofs.WrittenBytes.{wordsFrom, words-add, word-small, drop-words, record-words, Small, small-append, bytes-length, words-at, same-rows, record-append, record-length, strings-length, ends-written, text-written, Tabled, tabled-strings, tabled-last, tabled-rises, Areas, areas-of, areas-hold, areas-layout}
 
-below-at : (t : ℕ → Bool) (n i : ℕ) → allBelow t n ≡ true → i < n → t i ≡ true
+pub below-at : (t : ℕ → Bool) (n i : ℕ) → allBelow t n ≡ true → i < n → t i ≡ true
 unfolding allBelow
 below-at t zero i h k = absurd (omega arith)
 below-at t (suc n) i h k = by (ltb i n) refl (below-at t n i (first (allBelow t n) (t n) h))

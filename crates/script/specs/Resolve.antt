@@ -4,7 +4,6 @@ use mathlib.Core.List.{List}
 use mathlib.Core.Bool.{cond}
 use mathlib.Core.Option.{none, some}
 use lib.Dec.{eqb}
-use lib.IntN.{ℤ, pos, negsuc}
 use Rattle.hir.specs.Hir as tree
 use Rattle.hir.specs.Hir.{Str, Rec}
 use Rattle.hir.specs.Tree.{Forest, mapForest}
@@ -24,11 +23,7 @@ use Rattle.script_records.specs.declared.layout.Layout.{Layout}
 use Rattle.script_records.specs.Layout.{layoutOf, stringAt}
 use Rattle.script.specs.Rules.{treeIn}
 use Rattle.script_records.specs.Decode.{recordOf}
-
--- a number in two's complement
-abbrev pub unsigned : ℤ → ℕ
-unsigned (pos n) = n
-unsigned (negsuc n) = 2 ^ 32 - 1 - n
+use Rattle.script_records.specs.Numbers.{unsigned}
 
 -- a string is what `text` has at its index
 module _ (text : ℕ → Str) where

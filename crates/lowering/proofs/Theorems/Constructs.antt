@@ -4,10 +4,11 @@ use mathlib.Core.Path.{_≡_, refl, ap, sym, _∙_}
 use mathlib.Core.Logic.{_⊎_, inl, inr}
 use mathlib.Core.List.{List, [], _∷_, map, List·Memᴰ, List·Memᴰ·head, List·Memᴰ·tail, List·Memᴰ·cases-cons, List·Memᴰ·eq-of-singleton}
 use mathlib.Core.Option.{Option, none, some, Option·getD}
-use mathlib.Core.Bool.{Bool, true, false, not, _&&_, _||_}
+use mathlib.Core.Bool.{Bool, true, false, cond, not, _&&_, _||_}
 use native.Mathlib.Omega.{arith}
 use borrow.Author.Tests.{eqb-true, leb-false}
 use lib.Dec.{leb, eqb, lit<}
+use lib.ListN.{length}
 use Rattle.hir.specs.declared.Affix.{Affix}
 use Rattle.hir.specs.declared.UnaryOperator.{UnaryOperator}
 use Rattle.hir.specs.declared.UnaryOperator.the-variants as unary
@@ -17,8 +18,7 @@ use Rattle.pcode.specs.declared.Op.{Op}
 use Rattle.pcode.specs.declared.Op.the-variants as op
 use Rattle.pcode.specs.Pcode as pcode
 use Rattle.pcode.specs.Pcode.{Integer, Float, Param, GotoFrame, rowOf, up}
-use Rattle.lowering.specs.Text.{bytes}
-use Rattle.lowering.specs.SpecialProperties.{same, special-properties, lower-case, get-special-property}
+use Rattle.special_properties.specs.SpecialProperties.{names, sameSpelling, firstFrom, getSpecialProperty, null, undefined, sameBytes}
 use Rattle.lowering.specs.Builder.{M, Step, Result, ok, refused, bind, _>>=_, _>>_, pure, when, create-label, pops, truncate-stack}
 use Rattle.lowering.specs.Access.{Access, Variable, Object, Direct, SpecialProperty, for-name, for-property, for-constant, get-value, set-value, get-and-set-value, delete, call, call-new, _gives_}
 use Rattle.lowering.specs.Operators.{Plan, trivial, trivial-not, trivial-assign, assign, logical-and, logical-or}
@@ -26,7 +26,7 @@ use Rattle.lowering.specs.Meaning.{Loop, Meaning, missing, kid, list, wi
 use Rattle.lowering.specs.Statement
 use Rattle.lowering.proofs.Theorems.Facts.{All, Param-ok, Header-ok, Constant-ok, Name-ok, Expr-ok, Target-ok, Rec-ok, name-access, property-access, identifier-access, constant-access, shape-access, access-of}
 use Rattle.lowering.proofs.Theorems.Invariant.{Context, Good, Yields, Value-is}
-use Rattle.lowering.proofs.Theorems.Steps.{found-in, all-append, good, good-pure, good-refuse, good-bind, good-value, good-then, good-make, good-order, good-plain, good-push, good-push-string, good-stack-size, good-define}
+use Rattle.lowering.proofs.Theorems.Steps.{all-append, good, good-pure, good-refuse, good-bind, good-value, good-then, good-make, good-order, good-plain, good-push, good-push-string, good-stack-size, good-define}
 
 -- ranges that a record gives
 
@@ -82,10 +82,10 @@ name-ok false false = tt
 
 property-ok : (name : Str) (p : Option ℕ) → Access-ok (property-access name p)
 property-ok name (some p) = tt
-property-ok name none = name-ok (same name (bytes "null")) (same name (bytes "undefined"))
+property-ok name none = name-ok (sameBytes name null) (sameBytes name undefined)
 
 pub shape-access-ok : (T : Str → Type 0) (s : Shape) → Shape-ok T s → Access-ok (shape-access s)
-shape-access-ok T (constant (ConstantKind.Identifier s)) h = property-ok s (get-special-property s)
+shape-access-ok T (constant (ConstantKind.Identifier s)) h = property-ok s (getSpecialProperty s)
 shape-access-ok T (constant (ConstantKind.Register r)) h = h
 shape-access-ok T (constant (ConstantKind.String s)) h = tt
 shape-access-ok T (constant (ConstantKind.Float v)) h = tt
@@ -124,8 +124,19 @@ param-ok T z Rec.Default h = (z, lit< tt)
 param-ok T z Rec.Other h = (z, lit< tt)
 
 -- a property's number is below 22
-property-small : (name : Str) (p : ℕ) → get-special-property name ≡ some p → p < 22
-property-small name p e = omega (arith, found-in (same (map lower-case name)) 0 special-properties p e)
+first-in : (i : ℕ) (xs : List Str) (name : Str) (p : ℕ) → firstFrom i xs name ≡ some p → p < i + length xs
+unfolding firstFrom
+first-in i [] name p e = let z : _≡_ {A = ℕ} 0 1 = cc in omega arith
+first-in i (x ∷ xs) name p e = go (sameSpelling name x) e (first-in (suc i) xs name p)
+  where
+    go : (b : Bool) → cond b (some i) (firstFrom (suc i) xs name) ≡ some p → (firstFrom (suc i) xs name ≡ some p → p < suc i + length xs) →
+        p < i + suc (length xs)
+    go true e h = let q : i ≡ p = cc in omega arith
+    go false e h = omega (arith, h e)
+
+property-small : (name : Str) (p : ℕ) → getSpecialProperty name ≡ some p → p < 22
+unfolding getSpecialProperty names
+property-small name p e = first-in 0 names name p e
 
 -- the values that accesses leave
 
@@ -148,11 +159,11 @@ yields-name false false name = yields-gives _ _
 
 yields-property : (name : Str) (p : Option ℕ) → Yields (λ (x : Access). x ≡ property-access name p) (for-property name p)
 yields-property name (some p) = yields-gives _ _
-yields-property name none = yields-name (same name (bytes "null")) (same name (bytes "undefined")) name
+yields-property name none = yields-name (sameBytes name null) (sameBytes name undefined) name
 
 pub yields-constant : (c : ConstantKind) → Yields (λ (x : Access). x ≡ constant-access c) (for-constant c)
 yields-constant (ConstantKind.String s) = yields-gives _ _
-yields-constant (ConstantKind.Identifier s) = yields-property s (get-special-property s)
+yields-constant (ConstantKind.Identifier s) = yields-property s (getSpecialProperty s)
 yields-constant (ConstantKind.Float v) = yields-gives _ _
 yields-constant (ConstantKind.Integer v) = yields-gives _ _
 yields-constant (ConstantKind.Boolean v) = yields-gives _ _
@@ -230,16 +241,16 @@ module _ {K : Context} where
     good-name false true name h = search good
     good-name false false name h = search good
 
-    good-property : (name : Str) (p : Option ℕ) → get-special-property name ≡ p → (K .ranges → K .text name) → Good K O [] (for-property name p)
+    good-property : (name : Str) (p : Option ℕ) → getSpecialProperty name ≡ p → (K .ranges → K .text name) → Good K O [] (for-property name p)
     good-property name (some p) e h =
         let no-name : K .ranges → K .text [] = K .empty in
         let small : K .ranges → p < 2 ^ 32 = λ r. omega (arith, property-small name p e) in
         search good
-    good-property name none e h = good-name (same name (bytes "null")) (same name (bytes "undefined")) name h
+    good-property name none e h = good-name (sameBytes name null) (sameBytes name undefined) name h
 
     pub good-constant : (c : ConstantKind) → (K .ranges → Constant-ok (K .text) c) → Good K O [] (for-constant c)
     good-constant (ConstantKind.String s) h = search good
-    good-constant (ConstantKind.Identifier s) h = good-property s (get-special-property s) refl h
+    good-constant (ConstantKind.Identifier s) h = good-property s (getSpecialProperty s) refl h
     good-constant (ConstantKind.Float v) h = search good
     good-constant (ConstantKind.Integer v) h = search good
     good-constant (ConstantKind.Boolean true) h = search good
@@ -348,9 +359,9 @@ module _ {K : Context} where
         Good K O [] (Statement.gen-target t)
     good-target (EnumeratorTarget.Variable name true) h p = search good
     good-target (EnumeratorTarget.Variable name false) h p =
-        good-value (good-property name (get-special-property name) refl h) (yields-property name (get-special-property name))
+        good-value (good-property name (getSpecialProperty name) refl h) (yields-property name (getSpecialProperty name))
         (λ a e. good-then (search good)
-        (good-set a (λ r. rw e (property-ok name (get-special-property name))) (λ q. p name refl (sym e ∙ q))))
+        (good-set a (λ r. rw e (property-ok name (getSpecialProperty name))) (λ q. p name refl (sym e ∙ q))))
     good-target (EnumeratorTarget.Register r) h p = search good
 
     good-condition : (end : ℕ) → List·Memᴰ end O → {ms : Forest Meaning} → All-fine K ms → Good K O [] (Statement.gen-condition end ms)

@@ -14,8 +14,7 @@ use Rattle.hir.specs.Hir.{Str, ConstantKind, EnumeratorTarget, ForCondition, Ex
 use Rattle.hir.specs.Tree.{Forest, more}
 use Rattle.pcode.specs.declared.Op.{Op}
 use Rattle.pcode.specs.Pcode.{Value, Null, Undefined, True, False, String, Integer, Float, Constant, Param, Header, DefineFunction, DefineFunction2, Plain, op, ConstantPool, StoreRegister, GotoFrame, GotoFrame2, GotoLabel, Action, Item}
-use Rattle.lowering.specs.Text.{bytes}
-use Rattle.lowering.specs.SpecialProperties.{same, get-special-property}
+use Rattle.special_properties.specs.SpecialProperties.{getSpecialProperty, null, undefined, sameBytes}
 use Rattle.lowering.specs.Builder.{State, Limits}
 use Rattle.lowering.specs.Access.{Access, Variable, Object, Direct, SpecialProperty}
 use Rattle.lowering.specs.Operators.{trivial-assign, assign, plan}
@@ -219,10 +218,10 @@ name-access false false = Variable
 
 abbrev pub property-access : Str → Option ℕ → Access
 property-access name (some p) = SpecialProperty
-property-access name none = name-access (same name (bytes "null")) (same name (bytes "undefined"))
+property-access name none = name-access (sameBytes name null) (sameBytes name undefined)
 
 abbrev pub identifier-access : Str → Access
-identifier-access name = property-access name (get-special-property name)
+identifier-access name = property-access name (getSpecialProperty name)
 
 abbrev pub constant-access : ConstantKind → Access
 constant-access (ConstantKind.Identifier s) = identifier-access s

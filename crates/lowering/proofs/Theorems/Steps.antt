@@ -13,7 +13,8 @@ use lib.ListN.{length, getD, set, length-append, length-set, List·getD-append, 
 use lib.Seq.{getD-set-same, getD-set-other, getD-append-seam}
 use Rattle.hir.specs.Hir.{Str}
 use Rattle.pcode.specs.Pcode.{Value, String, Constant, Header, Action, Item, Plain, Branching, Delta, moved}
-use Rattle.lowering.specs.SpecialProperties.{same, find}
+use Rattle.special_properties.specs.SpecialProperties.{sameBytes}
+use Rattle.lowering.specs.Strings.{find}
 use Rattle.lowering.specs.Builder.{Limits, M, Step, State, Result, ok, refused, bind, allow, _>>=_, _>>_, pure, refuse, with-items, with-labels, with-constants, create-label, stack-size, assume-stack-delta, action-with-stack-delta, mark-label, push, push-joined, join, ends-in-push, add, add-new, add-found, joins, potential-length, in-new-list, defined, close, define-function}
 use Rattle.lowering.specs.Statement.{pool}
 use Rattle.lowering.proofs.Theorems.Facts.{All, label-of, branches, counted, count, Closed, is-action, pushed-by, sum, function-list, At, here, there, Value-ok, Header-ok, Plain-ok, Item-ok, Full}
@@ -646,8 +647,8 @@ module _ (K : Context) (O : List ℕ) (str : Str) (h : K .ranges → K .text str
     fine = λ r. omega (arith, length-append (s .constants) (str ∷ []));
   }
 
-  found : (i : Option ℕ) → find (same str) 0 (s .constants) ≡ i → Post K (λ v t. Added K O o w s v t) (add-found str s i)
-  found (some i) e = as-is (Value.Constant i) (λ r. omega (arith, found-in (same str) 0 (s .constants) i e))
+  found : (i : Option ℕ) → find (sameBytes str) 0 (s .constants) ≡ i → Post K (λ v t. Added K O o w s v t) (add-found str s i)
+  found (some i) e = as-is (Value.Constant i) (λ r. omega (arith, found-in (sameBytes str) 0 (s .constants) i e))
   found none e = new (joins s str) refl
 
   onward-push : (r : Result Value) → Post K (λ v t. Added K O o w s v t) r → Post K (λ a t. After K O [] o w s t) (bind r push)
@@ -671,8 +672,8 @@ module _ (K : Context) (O : List ℕ) (str : Str) (h : K .ranges → K .text str
 pub good-add : {K : Context} {O : List ℕ} (str : Str) → (K .ranges → K .text str) → Good K O [] (add str)
 unfolding add
 good-add {K} {O} str h = record {
-  run = λ o w s c f. go o w s (add-found str s (find (same str) 0 (s .constants)))
-      (found K O str h o w s c (find (same str) 0 (s .constants)) refl);
+  run = λ o w s c f. go o w s (add-found str s (find (sameBytes str) 0 (s .constants)))
+      (found K O str h o w s c (find (sameBytes str) 0 (s .constants)) refl);
 }
   where
     go : (o : Origin) (w : Waiting) (s : State) (r : Result Value) → Post K (λ v t. Added K O o w s v t) r → Post K (λ v t. After K O [] o w s t) r
@@ -682,8 +683,8 @@ good-add {K} {O} str h = record {
 pub good-push-string : {K : Context} {O : List ℕ} (str : Str) → (K .ranges → K .text str) → Good K O [] (add str >>= push)
 unfolding add _>>=_
 good-push-string {K} {O} str h = record {
-  run = λ o w s c f. onward-push K O str h o w s c (add-found str s (find (same str) 0 (s .constants)))
-      (found K O str h o w s c (find (same str) 0 (s .constants)) refl);
+  run = λ o w s c f. onward-push K O str h o w s c (add-found str s (find (sameBytes str) 0 (s .constants)))
+      (found K O str h o w s c (find (sameBytes str) 0 (s .constants)) refl);
 }
 
 -- a function

@@ -1,0 +1,12 @@
+pub mod Lowered
+pub mod Ranges
+pub mod Ways
+pub mod Kept
+pub mod SameLists
+pub mod Branches
+pub mod Refusals
+pub mod Table
+pub mod Causes
+pub mod Outputs
+pub mod Records
+pub mod Theorems
