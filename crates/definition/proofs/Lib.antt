@@ -10,3 +10,4 @@ pub mod Causes
 pub mod Outputs
 pub mod Records
 pub mod Theorems
+pub mod Left

@@ -26,7 +26,8 @@ use Rattle.action_format.specs.Offsets.{all-near}
 use Rattle.action_format.specs.Encode as action_format
 use Rattle.action_format.specs.Encode.{short, unless-refused, encode}
 use Rattle.action_format.proofs.Sound.{exactly-read, no-list}
-use Rattle.definition.specs.Outcome.{refused, Reading, read, byPlace, sliceWords, byteLimits, Outcome, compiled, numberOf}
+use Rattle.list_slice.specs.Words.{sliceLength}
+use Rattle.definition.specs.Outcome.{refused, Reading, read, byPlace, byteLimits, Outcome, compiled, numberOf}
 use Rattle.definition.specs.Outcome as outcome
 use Rattle.definition.specs.Compile.{statementsOf, listsOf, compileWith}
 use Rattle.definition.specs.Read.{readWith}
@@ -109,7 +110,7 @@ module _ (lim : Limits) (file : List ℕ) (listWords room : ℕ) where
   not-zero : Not-accepted file 0 → ⊥
   not-zero h = elim h [ ]
 
-  by-file : (n : ℕ) → sliceWords lim ≤ listWords → Not-accepted file n → Way lim file listWords room (refused n)
+  by-file : (n : ℕ) → sliceLength lim ≤ listWords → Not-accepted file n → Way lim file listWords room (refused n)
   by-file zero s h = absurd (not-zero h)
   by-file (suc n) s h = not-accepted s (check-exactly file n .1 h)
 
@@ -148,39 +149,39 @@ module _ (lim : Limits) (file : List ℕ) (listWords room : ℕ) where
         go (inr (inr (inl e))) = (omega arith, omega arith)
         go (inr (inr (inr e))) = (omega arith, omega arith)
 
-    pub thirteen-exactly : (compileWith lim file listWords room ≡ refused 13) ↔ (listWords < sliceWords lim)
+    pub thirteen-exactly : (compileWith lim file listWords room ≡ refused 13) ↔ (listWords < sliceLength lim)
     thirteen-exactly = (λ e. go 13 refl (refused-exactly 13 .0 e), λ h. refused-exactly 13 .1 (list-slice h))
       where
-        go : (n : ℕ) → n ≡ 13 → For n → listWords < sliceWords lim
+        go : (n : ℕ) → n ≡ 13 → For n → listWords < sliceLength lim
         go n z (list-slice h) = h
         go n z (script-file s h) = absurd (omega (arith, file-number h))
         go n z (in-lowering s c l) = absurd (omega (arith, lowering-number l .1))
         go n z (in-writing s c l h) = absurd (omega (arith, writing-number h .1))
 
-    pub file-exactly : (n : ℕ) → n ≤ 4 → (compileWith lim file listWords room ≡ refused n) ↔ ((sliceWords lim ≤ listWords) × Not-accepted file n)
+    pub file-exactly : (n : ℕ) → n ≤ 4 → (compileWith lim file listWords room ≡ refused n) ↔ ((sliceLength lim ≤ listWords) × Not-accepted file n)
     file-exactly n k = (λ e. go n k (refused-exactly n .0 e), λ h. refused-exactly n .1 (script-file (h .0) (h .1)))
       where
-        go : (n : ℕ) → n ≤ 4 → For n → (sliceWords lim ≤ listWords) × Not-accepted file n
+        go : (n : ℕ) → n ≤ 4 → For n → (sliceLength lim ≤ listWords) × Not-accepted file n
         go n k (list-slice h) = absurd (omega arith)
         go n k (script-file s h) = (s, h)
         go n k (in-lowering s c l) = absurd (omega (arith, lowering-number l .0))
         go n k (in-writing s c l h) = absurd (omega (arith, writing-number h .0))
 
     pub lowering-exactly : (n : ℕ) → 5 ≤ n → n ≤ 8 → (compileWith lim file listWords room ≡ refused n) ↔
-        ((sliceWords lim ≤ listWords) × (checkOf file ≡ 0) × (listsOf lim file ≡ lowering.refusal n))
+        ((sliceLength lim ≤ listWords) × (checkOf file ≡ 0) × (listsOf lim file ≡ lowering.refusal n))
     lowering-exactly n j k = (λ e. go n j k (refused-exactly n .0 e), λ h. refused-exactly n .1 (in-lowering (h .0) (h .1) (h .2)))
       where
-        go : (n : ℕ) → 5 ≤ n → n ≤ 8 → For n → (sliceWords lim ≤ listWords) × (checkOf file ≡ 0) × (listsOf lim file ≡ lowering.refusal n)
+        go : (n : ℕ) → 5 ≤ n → n ≤ 8 → For n → (sliceLength lim ≤ listWords) × (checkOf file ≡ 0) × (listsOf lim file ≡ lowering.refusal n)
         go n j k (list-slice h) = absurd (omega arith)
         go n j k (script-file s h) = absurd (omega (arith, file-number h))
         go n j k (in-lowering s c l) = (s, c, l)
         go n j k (in-writing s c l h) = absurd (omega (arith, writing-number h .0))
 
     pub writing-exactly : (n : ℕ) → 9 ≤ n → n ≤ 12 → (compileWith lim file listWords room ≡ refused n) ↔
-        ((sliceWords lim ≤ listWords) × (checkOf file ≡ 0) × (ls : List (List Item)) × (listsOf lim file ≡ lowering.lists ls) × Not-written (byPlace ls) room n)
+        ((sliceLength lim ≤ listWords) × (checkOf file ≡ 0) × (ls : List (List Item)) × (listsOf lim file ≡ lowering.lists ls) × Not-written (byPlace ls) room n)
     writing-exactly n j k = (λ e. go n j k (refused-exactly n .0 e), λ h. refused-exactly n .1 (in-writing (h .0) (h .1) (h .3) (h .4)))
       where
-        go : (n : ℕ) → 9 ≤ n → n ≤ 12 → For n → (sliceWords lim ≤ listWords) × (checkOf file ≡ 0) × (ls : List (List Item)) × (listsOf lim file ≡ lowering.lists ls) × Not-written (byPlace ls) room n
+        go : (n : ℕ) → 9 ≤ n → n ≤ 12 → For n → (sliceLength lim ≤ listWords) × (checkOf file ≡ 0) × (ls : List (List Item)) × (listsOf lim file ≡ lowering.lists ls) × Not-written (byPlace ls) room n
         go n j k (list-slice h) = absurd (omega arith)
         go n j k (script-file s h) = absurd (omega (arith, file-number h))
         go n j k (in-lowering s c l) = absurd (omega (arith, lowering-number l .1))
@@ -215,33 +216,33 @@ module _ (lim : Limits) (file : List ℕ) (listWords room : ℕ) where
 -- reading: 13, then 14
 
 module _ (lim : Limits) (bytes : List ℕ) (listWords : ℕ) where
-  pub read-thirteen-exactly : (readWith lim bytes listWords ≡ outcome.Reading.refused 13) ↔ (listWords < sliceWords lim)
+  pub read-thirteen-exactly : (readWith lim bytes listWords ≡ outcome.Reading.refused 13) ↔ (listWords < sliceLength lim)
   read-thirteen-exactly = (λ e. go 13 refl (subst (ReadWay lim bytes listWords) e (read-way lim bytes listWords)), λ h. reading-of lim bytes listWords (ways.ReadWay.short-slice h))
     where
-      go : (n : ℕ) → n ≡ 13 → ReadWay lim bytes listWords (outcome.Reading.refused n) → listWords < sliceWords lim
+      go : (n : ℕ) → n ≡ 13 → ReadWay lim bytes listWords (outcome.Reading.refused n) → listWords < sliceLength lim
       go n z (ways.ReadWay.short-slice h) = h
       go n z (not-found s e) = absurd (omega arith)
 
   pub fourteen-exactly : (readWith lim bytes listWords ≡ outcome.Reading.refused 14) ↔
-      ((sliceWords lim ≤ listWords) × ((l : Lists) (room : ℕ) → IsLists (byteLimits lim) l → encode l room ≡ action_format.bytes bytes → ⊥))
+      ((sliceLength lim ≤ listWords) × ((l : Lists) (room : ℕ) → IsLists (byteLimits lim) l → encode l room ≡ action_format.bytes bytes → ⊥))
   fourteen-exactly = (
     λ e. go 14 refl (subst (ReadWay lim bytes listWords) e (read-way lim bytes listWords)),
     λ h. reading-of lim bytes listWords (not-found (h .0) (no-list (byteLimits lim) bytes .1 (h .1))),
   )
     where
       go : (n : ℕ) → n ≡ 14 → ReadWay lim bytes listWords (outcome.Reading.refused n) →
-          (sliceWords lim ≤ listWords) × ((l : Lists) (room : ℕ) → IsLists (byteLimits lim) l → encode l room ≡ action_format.bytes bytes → ⊥)
+          (sliceLength lim ≤ listWords) × ((l : Lists) (room : ℕ) → IsLists (byteLimits lim) l → encode l room ≡ action_format.bytes bytes → ⊥)
       go n z (ways.ReadWay.short-slice h) = absurd (omega arith)
       go n z (not-found s e) = (s, no-list (byteLimits lim) bytes .0 e)
 
   -- accepted are exactly the bytes that lists within the limits write to, and all of them are read
   pub read-exactly : (l : Lists) (n : ℕ) → (readWith lim bytes listWords ≡ read l n) ↔
-      ((sliceWords lim ≤ listWords) × IsLists (byteLimits lim) l × (encode l (length bytes) ≡ action_format.bytes bytes) × (n ≡ length bytes))
+      ((sliceLength lim ≤ listWords) × IsLists (byteLimits lim) l × (encode l (length bytes) ≡ action_format.bytes bytes) × (n ≡ length bytes))
   read-exactly l n = (
     λ e. go l n (subst (ReadWay lim bytes listWords) e (read-way lim bytes listWords)),
     λ h. reading-of lim bytes listWords (found (h .0) (exactly-read (byteLimits lim) bytes l .1 (h .1, h .2))) ∙ ap (read l) (sym (h .3)),
   )
     where
       go : (l : Lists) (n : ℕ) → ReadWay lim bytes listWords (read l n) →
-          (sliceWords lim ≤ listWords) × IsLists (byteLimits lim) l × (encode l (length bytes) ≡ action_format.bytes bytes) × (n ≡ length bytes)
+          (sliceLength lim ≤ listWords) × IsLists (byteLimits lim) l × (encode l (length bytes) ≡ action_format.bytes bytes) × (n ≡ length bytes)
       go l n (found s e) = let x = exactly-read (byteLimits lim) bytes l .0 e in (s, x .0, x .1, refl)

@@ -13,7 +13,8 @@ use Rattle.action_format.specs.ByList.{list-of}
 use Rattle.action_format.proofs.Tests.{never, some-of}
 use Rattle.action_format.proofs.Complete.{complete}
 use Rattle.action_format.proofs.Prefix as prefix
-use Rattle.definition.specs.Outcome.{compiled, read, byPlace, sliceWords, byteLimits}
+use Rattle.list_slice.specs.Words.{sliceLength}
+use Rattle.definition.specs.Outcome.{compiled, read, byPlace, byteLimits}
 use Rattle.definition.specs.Compile.{compileWith}
 use Rattle.definition.specs.Read.{readWith}
 use Rattle.definition.specs.Demand3.{Begins, Agree, Same-lists}
@@ -71,6 +72,6 @@ module _ (lim : Limits) (some-action : 1 ≤ lim .actions) where
       pub then-equal : Same-lists ls ls′ → b ≡ b′
       then-equal h = equal-bytes (agree-same (byPlace ls) (byPlace ls′) .0 h)
 
-    pub read-back : (words : ℕ) → sliceWords lim ≤ words → readWith lim b words ≡ read (byPlace ls) (length b)
+    pub read-back : (words : ℕ) → sliceLength lim ≤ words → readWith lim b words ≡ read (byPlace ls) (length b)
     read-back words s =
         reading-of lim b words (found s (complete (byteLimits lim) (byPlace ls) (kept lim some-action file listWords room b ls bytes c) room b (c .encoded)))

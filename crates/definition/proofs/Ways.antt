@@ -16,7 +16,8 @@ use Rattle.action_format.specs.Lists.{Lists}
 use Rattle.action_format.specs.Encode as action_format
 use Rattle.action_format.specs.Encode.{encode}
 use Rattle.action_format.specs.Decode.{decode}
-use Rattle.definition.specs.Outcome.{Outcome, compiled, refused, Reading, read, byPlace, sliceWords, byteLimits}
+use Rattle.list_slice.specs.Words.{sliceLength}
+use Rattle.definition.specs.Outcome.{Outcome, compiled, refused, Reading, read, byPlace, byteLimits}
 use Rattle.definition.specs.Outcome as outcome
 use Rattle.definition.specs.Compile.{listsOf, inSlice, ifAccepted, ifLowered, written, compileWith}
 use Rattle.definition.specs.Read as reading
@@ -24,46 +25,46 @@ use Rattle.definition.specs.Read.{readWith}
 
 module _ (lim : Limits) (file : List ℕ) (listWords room : ℕ) where
   pub data Way : Outcome → Type 0 where
-    short-slice : listWords < sliceWords lim → Way (refused 13)
-    not-accepted : {n : ℕ} → sliceWords lim ≤ listWords → checkOf file ≡ suc n → Way (refused (suc n))
-    not-lowered : {n : ℕ} → sliceWords lim ≤ listWords → checkOf file ≡ 0 → listsOf lim file ≡ lowering.refusal n → Way (refused n)
-    not-written : {n : ℕ} {ls : List (List Item)} → sliceWords lim ≤ listWords → checkOf file ≡ 0 → listsOf lim file ≡ lowering.lists ls →
+    short-slice : listWords < sliceLength lim → Way (refused 13)
+    not-accepted : {n : ℕ} → sliceLength lim ≤ listWords → checkOf file ≡ suc n → Way (refused (suc n))
+    not-lowered : {n : ℕ} → sliceLength lim ≤ listWords → checkOf file ≡ 0 → listsOf lim file ≡ lowering.refusal n → Way (refused n)
+    not-written : {n : ℕ} {ls : List (List Item)} → sliceLength lim ≤ listWords → checkOf file ≡ 0 → listsOf lim file ≡ lowering.lists ls →
         encode (byPlace ls) room ≡ action_format.refused n → Way (refused n)
-    written-out : {b : List ℕ} {ls : List (List Item)} → sliceWords lim ≤ listWords → checkOf file ≡ 0 → listsOf lim file ≡ lowering.lists ls →
+    written-out : {b : List ℕ} {ls : List (List Item)} → sliceLength lim ≤ listWords → checkOf file ≡ 0 → listsOf lim file ≡ lowering.lists ls →
         encode (byPlace ls) room ≡ action_format.bytes b → Way (compiled b ls)
 
   pub way : Way (compileWith lim file listWords room)
   unfolding compileWith
-  way = slice (ltb listWords (sliceWords lim)) refl
+  way = slice (ltb listWords (sliceLength lim)) refl
     where
-      answer : sliceWords lim ≤ listWords → checkOf file ≡ 0 → (ls : List (List Item)) → listsOf lim file ≡ lowering.lists ls →
+      answer : sliceLength lim ≤ listWords → checkOf file ≡ 0 → (ls : List (List Item)) → listsOf lim file ≡ lowering.lists ls →
           (a : action_format.Answer) → encode (byPlace ls) room ≡ a → Way (written ls a)
       answer s c ls l (action_format.bytes b) e = written-out s c l e
       answer s c ls l (action_format.refused n) e = not-written s c l e
 
-      lists : sliceWords lim ≤ listWords → checkOf file ≡ 0 → (l : lowering.Lists) → listsOf lim file ≡ l → Way (ifLowered l room)
+      lists : sliceLength lim ≤ listWords → checkOf file ≡ 0 → (l : lowering.Lists) → listsOf lim file ≡ l → Way (ifLowered l room)
       lists s c (lowering.refusal n) e = not-lowered s c e
       lists s c (lowering.lists ls) e = answer s c ls e (encode (byPlace ls) room) refl
 
-      check : sliceWords lim ≤ listWords → (n : ℕ) → checkOf file ≡ n → Way (ifAccepted n (ifLowered (listsOf lim file) room))
+      check : sliceLength lim ≤ listWords → (n : ℕ) → checkOf file ≡ n → Way (ifAccepted n (ifLowered (listsOf lim file) room))
       check s zero e = lists s e (listsOf lim file) refl
       check s (suc n) e = not-accepted s e
 
-      slice : (b : Bool) → ltb listWords (sliceWords lim) ≡ b → Way (inSlice b (ifAccepted (checkOf file) (ifLowered (listsOf lim file) room)))
-      slice true e = short-slice (ltb-true listWords (sliceWords lim) e)
-      slice false e = check (ltb-false listWords (sliceWords lim) e) (checkOf file) refl
+      slice : (b : Bool) → ltb listWords (sliceLength lim) ≡ b → Way (inSlice b (ifAccepted (checkOf file) (ifLowered (listsOf lim file) room)))
+      slice true e = short-slice (ltb-true listWords (sliceLength lim) e)
+      slice false e = check (ltb-false listWords (sliceLength lim) e) (checkOf file) refl
 
   -- and each way leads to its outcome
   pub outcome-of : {o : Outcome} → Way o → compileWith lim file listWords room ≡ o
   unfolding compileWith
-  outcome-of (short-slice h) = rw (lt-ltb listWords (sliceWords lim) h)
-  outcome-of (not-accepted s c) = rw (le-ltb listWords (sliceWords lim) s, c)
-  outcome-of (not-lowered s c l) = rw (le-ltb listWords (sliceWords lim) s, c, l)
-  outcome-of (not-written s c l e) = rw (le-ltb listWords (sliceWords lim) s, c, l, e)
-  outcome-of (written-out s c l e) = rw (le-ltb listWords (sliceWords lim) s, c, l, e)
+  outcome-of (short-slice h) = rw (lt-ltb listWords (sliceLength lim) h)
+  outcome-of (not-accepted s c) = rw (le-ltb listWords (sliceLength lim) s, c)
+  outcome-of (not-lowered s c l) = rw (le-ltb listWords (sliceLength lim) s, c, l)
+  outcome-of (not-written s c l e) = rw (le-ltb listWords (sliceLength lim) s, c, l, e)
+  outcome-of (written-out s c l e) = rw (le-ltb listWords (sliceLength lim) s, c, l, e)
 
   pub record Compiled (b : List ℕ) (ls : List (List Item)) : Type 0 where
-    pub in-slice : sliceWords lim ≤ listWords
+    pub in-slice : sliceLength lim ≤ listWords
     pub accepted : checkOf file ≡ 0
     pub lowered : listsOf lim file ≡ lowering.lists ls
     pub encoded : encode (byPlace ls) room ≡ action_format.bytes b
@@ -75,7 +76,7 @@ module _ (lim : Limits) (file : List ℕ) (listWords room : ℕ) where
       go (written-out s c l q) = record { in-slice = s; accepted = c; lowered = l; encoded = q }
 
   pub compiled-exactly : (b : List ℕ) (ls : List (List Item)) → (compileWith lim file listWords room ≡ compiled b ls) ↔
-      ((sliceWords lim ≤ listWords) × (checkOf file ≡ 0) × (listsOf lim file ≡ lowering.lists ls) × (encode (byPlace ls) room ≡ action_format.bytes b))
+      ((sliceLength lim ≤ listWords) × (checkOf file ≡ 0) × (listsOf lim file ≡ lowering.lists ls) × (encode (byPlace ls) room ≡ action_format.bytes b))
   compiled-exactly b ls = (
     λ e. let c = compiled-by b ls e in (c .in-slice, c .accepted, c .lowered, c .encoded),
     λ h. outcome-of (written-out (h .0) (h .1) (h .2) (h .3)),
@@ -83,24 +84,24 @@ module _ (lim : Limits) (file : List ℕ) (listWords room : ℕ) where
 
 module _ (lim : Limits) (bytes : List ℕ) (listWords : ℕ) where
   pub data ReadWay : Reading → Type 0 where
-    short-slice : listWords < sliceWords lim → ReadWay (outcome.Reading.refused 13)
-    not-found : sliceWords lim ≤ listWords → decode (byteLimits lim) bytes ≡ none → ReadWay (outcome.Reading.refused 14)
-    found : {l : Lists} → sliceWords lim ≤ listWords → decode (byteLimits lim) bytes ≡ some l → ReadWay (read l (length bytes))
+    short-slice : listWords < sliceLength lim → ReadWay (outcome.Reading.refused 13)
+    not-found : sliceLength lim ≤ listWords → decode (byteLimits lim) bytes ≡ none → ReadWay (outcome.Reading.refused 14)
+    found : {l : Lists} → sliceLength lim ≤ listWords → decode (byteLimits lim) bytes ≡ some l → ReadWay (read l (length bytes))
 
   pub read-way : ReadWay (readWith lim bytes listWords)
   unfolding readWith
-  read-way = slice (ltb listWords (sliceWords lim)) refl
+  read-way = slice (ltb listWords (sliceLength lim)) refl
     where
-      lists : sliceWords lim ≤ listWords → (o : Option Lists) → decode (byteLimits lim) bytes ≡ o → ReadWay (reading.ifFound o (length bytes))
+      lists : sliceLength lim ≤ listWords → (o : Option Lists) → decode (byteLimits lim) bytes ≡ o → ReadWay (reading.ifFound o (length bytes))
       lists s none e = not-found s e
       lists s (some l) e = found s e
 
-      slice : (b : Bool) → ltb listWords (sliceWords lim) ≡ b → ReadWay (reading.inSlice b (reading.ifFound (decode (byteLimits lim) bytes) (length bytes)))
-      slice true e = short-slice (ltb-true listWords (sliceWords lim) e)
-      slice false e = lists (ltb-false listWords (sliceWords lim) e) (decode (byteLimits lim) bytes) refl
+      slice : (b : Bool) → ltb listWords (sliceLength lim) ≡ b → ReadWay (reading.inSlice b (reading.ifFound (decode (byteLimits lim) bytes) (length bytes)))
+      slice true e = short-slice (ltb-true listWords (sliceLength lim) e)
+      slice false e = lists (ltb-false listWords (sliceLength lim) e) (decode (byteLimits lim) bytes) refl
 
   pub reading-of : {r : Reading} → ReadWay r → readWith lim bytes listWords ≡ r
   unfolding readWith
-  reading-of (short-slice h) = rw (lt-ltb listWords (sliceWords lim) h)
-  reading-of (not-found s e) = rw (le-ltb listWords (sliceWords lim) s, e)
-  reading-of (found s e) = rw (le-ltb listWords (sliceWords lim) s, e)
+  reading-of (short-slice h) = rw (lt-ltb listWords (sliceLength lim) h)
+  reading-of (not-found s e) = rw (le-ltb listWords (sliceLength lim) s, e)
+  reading-of (found s e) = rw (le-ltb listWords (sliceLength lim) s, e)

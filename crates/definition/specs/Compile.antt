@@ -14,7 +14,8 @@ use Rattle.lowering.specs.Statement as lowering
 use Rattle.lowering.specs.Statement.{script-to-actions}
 use Rattle.action_format.specs.Encode as action_format
 use Rattle.action_format.specs.Encode.{encode}
-use Rattle.definition.specs.Outcome.{Outcome, compiled, refused, byPlace, sliceWords}
+use Rattle.list_slice.specs.Words.{sliceLength}
+use Rattle.definition.specs.Outcome.{Outcome, compiled, refused, byPlace}
 
 -- the statements of a script file: the children of its one root
 abbrev pub statementsOf : List ℕ → Forest Rec
@@ -46,7 +47,7 @@ ifLowered (lowering.lists ls) room = written ls (encode (byPlace ls) room)
 -- 13; then 4 (bytes), 1, 2, 3, 4 (depth); then the first of 5 to 8; then 9, 10, 11, 12
 unfoldable pub compileWith : Limits → (file : List ℕ) → (listWords room : ℕ) → Outcome
 compileWith lim file listWords room =
-    inSlice (ltb listWords (sliceWords lim))
+    inSlice (ltb listWords (sliceLength lim))
     (ifAccepted (checkOf file)
     (ifLowered (listsOf lim file) room))
 

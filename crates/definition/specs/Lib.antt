@@ -3,3 +3,4 @@ pub mod Compile
 pub mod Read
 pub mod Demand3
 pub mod Refusals
+pub mod Left

@@ -1,5 +1,5 @@
 -- What a call gives: its lists, or the number of the one refusal; and what it leaves, its length and its output.
-use Prim.Native.Nat.{ℕ, _+_, _-_, _*_}
+use Prim.Native.Nat.{ℕ, _-_}
 use mathlib.Core.List.{List, [], _∷_, _++_}
 use lib.ListN.{length, replicate}
 use Rattle.pcode.specs.Pcode.{Item}
@@ -45,10 +45,6 @@ readNumberOf (refused n) = n
 abbrev pub readLengthOf : Reading → ℕ
 readLengthOf (read ls n) = n
 readLengthOf (refused n) = 0
-
--- the list slice has four words for each action, push value and label: 16,384 at document 01's limits
-abbrev pub sliceWords : Limits → ℕ
-sliceWords lim = 4 * (lim .actions + lim .values + lim .labels)
 
 -- the limits of lists without labels
 abbrev pub byteLimits : Limits → bytes.Limits

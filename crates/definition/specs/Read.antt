@@ -8,7 +8,8 @@ use lib.ListN.{length}
 use Rattle.lowering.specs.Builder.{Limits, limits01}
 use Rattle.action_format.specs.Lists.{Lists}
 use Rattle.action_format.specs.Decode.{decode}
-use Rattle.definition.specs.Outcome.{Reading, read, refused, sliceWords, byteLimits}
+use Rattle.list_slice.specs.Words.{sliceLength}
+use Rattle.definition.specs.Outcome.{Reading, read, refused, byteLimits}
 
 -- 13 if the list slice is too short
 abbrev pub inSlice : (short : Bool) → Reading → Reading
@@ -21,7 +22,7 @@ ifFound none n = refused 14
 ifFound (some l) n = read l n
 
 unfoldable pub readWith : Limits → (bytes : List ℕ) → (listWords : ℕ) → Reading
-readWith lim bytes listWords = inSlice (ltb listWords (sliceWords lim)) (ifFound (decode (byteLimits lim) bytes) (length bytes))
+readWith lim bytes listWords = inSlice (ltb listWords (sliceLength lim)) (ifFound (decode (byteLimits lim) bytes) (length bytes))
 
 -- at document 01's limits
 abbrev pub readOf : (bytes : List ℕ) → (listWords : ℕ) → Reading

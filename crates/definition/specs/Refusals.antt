@@ -17,7 +17,8 @@ use Rattle.action_format.specs.Offsets.{all-near}
 use Rattle.action_format.specs.Encode as action_format
 use Rattle.action_format.specs.Encode.{short}
 use Rattle.action_format.specs.ByList.{action-short, action-near}
-use Rattle.definition.specs.Outcome.{byPlace, sliceWords}
+use Rattle.list_slice.specs.Words.{sliceLength}
+use Rattle.definition.specs.Outcome.{byPlace}
 use Rattle.definition.specs.Compile.{listsOf}
 
 -- 4 (bytes), 1, 2, 3, 4 (depth): the maker of the script file
@@ -39,10 +40,10 @@ pub data Not-written (l : Lists) (room : ℕ) : ℕ → Type 0 where
 
 -- 13 comes first; then the file's refusals; then 5, 6, 7 and 8, the first in emission order; then those of writing
 pub data Refused-for (lim : Limits) (file : List ℕ) (listWords room : ℕ) : ℕ → Type 0 where
-  list-slice : listWords < sliceWords lim → Refused-for lim file listWords room 13
-  script-file : {n : ℕ} → sliceWords lim ≤ listWords → Not-accepted file n → Refused-for lim file listWords room n
-  in-lowering : {n : ℕ} → sliceWords lim ≤ listWords → checkOf file ≡ 0 → listsOf lim file ≡ lowering.refusal n → Refused-for lim file listWords room n
-  in-writing : {n : ℕ} {ls : List (List Item)} → sliceWords lim ≤ listWords → checkOf file ≡ 0 → listsOf lim file ≡ lowering.lists ls →
+  list-slice : listWords < sliceLength lim → Refused-for lim file listWords room 13
+  script-file : {n : ℕ} → sliceLength lim ≤ listWords → Not-accepted file n → Refused-for lim file listWords room n
+  in-lowering : {n : ℕ} → sliceLength lim ≤ listWords → checkOf file ≡ 0 → listsOf lim file ≡ lowering.refusal n → Refused-for lim file listWords room n
+  in-writing : {n : ℕ} {ls : List (List Item)} → sliceLength lim ≤ listWords → checkOf file ≡ 0 → listsOf lim file ≡ lowering.lists ls →
       Not-written (byPlace ls) room n → Refused-for lim file listWords room n
 
 -- the record of which 9, 10 or 11 speaks: action i of list k

@@ -139,29 +139,29 @@ gen-elements loop default (Default label ∷ xs) = gen-elements loop default xs 
 gen-elements loop default (Statement s ∷ xs) = gen-elements loop default xs >> when (has-case xs || has-default xs) (s .gen-statement loop)
 
 abbrev pub gen-cases : Loop → Meaning → ℕ → List SwitchElement → Step
-gen-cases loop target end xs = do
+gen-cases loop target end-switch xs = do
   when (has-case xs) (expr target >> store-register 0 >> gen-conditionals xs)
-  jump (default-label end xs)
-  gen-elements (record { break-label = some end; continue-label = loop .continue-label }) (default-label end xs) xs
-  mark-label end
+  jump (default-label end-switch xs)
+  gen-elements (record { break-label = some end-switch; continue-label = loop .continue-label }) (default-label end-switch xs) xs
+  mark-label end-switch
 
 abbrev pub gen-switch : Loop → Meaning → Forest Meaning → Step
 gen-switch loop target elements = do
-  end ← create-label
+  end-switch ← create-label
   xs ← with-labels elements
-  when (has-case xs || has-default xs) (gen-cases loop target end xs)
+  when (has-case xs || has-default xs) (gen-cases loop target end-switch xs)
 
 abbrev pub gen-while-loop : Meaning → Meaning → Step
 gen-while-loop condition body = do
-  start ← create-label
-  end ← create-label
-  mark-label start
+  start-while ← create-label
+  end-while ← create-label
+  mark-label start-while
   expr condition
   action Not
-  branch end
-  body .gen-statement (record { break-label = some end; continue-label = some start })
-  jump start
-  mark-label end
+  branch end-while
+  body .gen-statement (record { break-label = some end-while; continue-label = some start-while })
+  jump start-while
+  mark-label end-while
 
 abbrev pub gen-target : EnumeratorTarget → Step
 gen-target (EnumeratorTarget.Variable name true) = push-string name >> push (Value.Register 0) >> action DefineLocal
@@ -180,37 +180,37 @@ gen-condition end (more es e kids) = all-discarded es >> expr e >> action Not >>
 abbrev pub gen-enumerate : EnumeratorTarget → Meaning → Meaning → Step
 gen-enumerate target object body = do
   size ← stack-size
-  end ← create-label
-  next ← create-label
+  end-each ← create-label
+  next-each ← create-label
   expr object
   action Enumerate2
-  mark-label next
+  mark-label next-each
   store-register 0
   push Null
   action Equals2
-  branch end
+  branch end-each
   gen-target target
-  body .gen-statement (record { break-label = some end; continue-label = some next })
-  jump next
+  body .gen-statement (record { break-label = some end-each; continue-label = some next-each })
+  jump next-each
   truncate-stack size
-  mark-label end
+  mark-label end-each
 
 abbrev pub gen-classic : Meaning → Forest Meaning → Forest Meaning → Meaning → Step
 gen-classic initialize condition update body = do
   size ← stack-size
-  end ← create-label
-  next ← create-label
-  let loop : Loop = record { break-label = some end; continue-label = some next }
+  end-for ← create-label
+  next-for ← create-label
+  let loop : Loop = record { break-label = some end-for; continue-label = some next-for }
   when (present (initialize .rec)) (initialize .gen-statement loop)
-  start ← create-label
-  mark-label start
-  gen-condition end condition
+  start-for ← create-label
+  mark-label start-for
+  gen-condition end-for condition
   body .gen-statement loop
-  mark-label next
+  mark-label next-for
   all-discarded update
-  jump start
+  jump start-for
   truncate-stack size
-  mark-label end
+  mark-label end-for
 
 abbrev pub gen-for-loop : ForCondition → Forest Meaning → Step
 gen-for-loop (ForCondition.Enumerate target) ms = gen-enumerate target (kid 1 ms) (kid 0 ms)
@@ -228,11 +228,11 @@ gen-branches loop end yes′ no′ false = branch end >> yes′ .gen-statement l
 
 abbrev pub gen-if : Loop → Meaning → Meaning → Meaning → Step
 gen-if loop condition yes′ no′ = do
-  end ← create-label
+  end-if ← create-label
   expr condition
   action Not
-  gen-branches loop end yes′ no′ (present (no′ .rec))
-  mark-label end
+  gen-branches loop end-if yes′ no′ (present (no′ .rec))
+  mark-label end-if
 
 abbrev pub gen-statement : StatementKind → Forest Meaning → Loop → Step
 gen-statement (StatementKind.Declare name) ms loop = gen-declaration name (kid 0 ms) (present (kid 0 ms .rec))
@@ -269,22 +269,22 @@ gen-binary-op assign ms discard = do
   expr (kid 0 ms)
   assign-value discard access
 gen-binary-op logical-and ms discard = do
-  end ← create-label
+  end-and ← create-label
   expr (kid 1 ms)
   action PushDuplicate
   action Not
-  branch end
+  branch end-and
   action Pop
   expr (kid 0 ms)
-  mark-label end
+  mark-label end-and
 gen-binary-op logical-or ms discard = do
-  end ← create-label
+  end-or ← create-label
   expr (kid 1 ms)
   action PushDuplicate
-  branch end
+  branch end-or
   action Pop
   expr (kid 0 ms)
-  mark-label end
+  mark-label end-or
 
 abbrev pub is-prefix : Affix → Bool
 is-prefix Prefix = true
@@ -322,15 +322,15 @@ gen-unary-op (unary.Decrement affix) e discard = adjust-in-place e Decrement aff
 
 abbrev pub gen-ternary : Meaning → Meaning → Meaning → Step
 gen-ternary condition yes′ no′ = do
-  end ← create-label
+  end-ternary ← create-label
   yes-label ← create-label
   expr condition
   branch yes-label
   expr no′
-  jump end
+  jump end-ternary
   mark-label yes-label
   expr yes′
-  mark-label end
+  mark-label end-ternary
   assume-stack-delta (down 1)
 
 abbrev pub gen-arguments : Forest Meaning → Step
