@@ -17,7 +17,7 @@ use Rattle.script.specs.Forms.{formOf, allOf, matches, trees, fits}
 use Rattle.script.specs.Rules.{allBelow, partedIn, parted, recordHolds, rootHolds, rulesHold, allUtf8, allSupported, treeIn, checkOf}
 use Rattle.script.specs.Resolve.{resolved, scriptOf}
 use Rattle.script.specs.Write.{Bytes}
-use Rattle.lowering.specs.Builder.{limits01, _>>=_, _>>_, pure, refuse, create-label, stack-size, assume-stack-delta, action-with-stack-delta, mark-label, push, add, define-function}
+use Rattle.lowering.specs.Builder.{limits01, _>>=_, _>>_, pure, refuse, create-label, stack-size, assume-stack-delta, action-with-stack-delta, mark-label, mark-default, push, add, define-function}
 use Rattle.lowering.specs.Statement as lowering
 use Rattle.lowering.specs.Statement.{meanings, generate-actions, script-to-actions}
 use Rattle.lowering.proofs.Table as lowered
@@ -138,7 +138,7 @@ rows = S1 ∷ S2 ∷ S3 ∷ S4 ∷ S5 ∷ S6 ∷ no-bytes lowered.S7 ∷ no-byte
 
 -- every script of the table gives what its row says, in an output of 65,536 bytes
 pub table : map (λ (r : Row). ifLowered (script-to-actions limits01 (r .script)) 65536) rows ≡ map (λ (r : Row). r .outcome) rows
-unfolding names same toAsciiLowercase firstFrom getSpecialProperty _>>=_ _>>_ pure refuse create-label stack-size assume-stack-delta action-with-stack-delta mark-label push add define-function meanings generate-actions script-to-actions encode nest word zero-ended stored code-bytes position
+unfolding names same toAsciiLowercase firstFrom getSpecialProperty _>>=_ _>>_ pure refuse create-label stack-size assume-stack-delta action-with-stack-delta mark-label mark-default push add define-function meanings generate-actions script-to-actions encode nest word zero-ended stored code-bytes position
 table = refl
 
 -- from a file's bytes
@@ -180,7 +180,7 @@ calls =
     call [] 16383 0 (refused 13) ∷ []
 
 pub files : map (λ (c : Call). compileOf (c .file) (c .listWords) (c .room)) calls ≡ map (λ (c : Call). c .outcome) calls
-unfolding compileWith checkOf rulesHold layoutOf wordAt endAt stringAt stringsFrom stringsOf rowAt rowsFrom rowsOf spanAt forestIn forest allBelow partedIn parted recordHolds rootHolds allUtf8 allSupported treeIn depth scriptOf mapForest resolved recordOf plainOf statementKinds signed binaryOperators constantOf formOf allOf matches trees fits utf8 completes next started Option·elim names same toAsciiLowercase firstFrom getSpecialProperty _>>=_ _>>_ pure refuse create-label stack-size assume-stack-delta action-with-stack-delta mark-label push add define-function meanings generate-actions script-to-actions encode nest word zero-ended stored code-bytes position
+unfolding compileWith checkOf rulesHold layoutOf wordAt endAt stringAt stringsFrom stringsOf rowAt rowsFrom rowsOf spanAt forestIn forest allBelow partedIn parted recordHolds rootHolds allUtf8 allSupported treeIn depth scriptOf mapForest resolved recordOf plainOf statementKinds signed binaryOperators constantOf formOf allOf matches trees fits utf8 completes next started Option·elim names same toAsciiLowercase firstFrom getSpecialProperty _>>=_ _>>_ pure refuse create-label stack-size assume-stack-delta action-with-stack-delta mark-label mark-default push add define-function meanings generate-actions script-to-actions encode nest word zero-ended stored code-bytes position
 files = refl
 
 -- that a file is of bytes is no empty premise

@@ -115,7 +115,8 @@ module _ (file : List ℕ) (listWords room : ℕ) where
   pub refused-5 : compileOf file listWords room ≡ refused 5 → Somewhere (Cause 5) (statementsOf file)
   refused-5 = causes.five limits01 some-action file listWords room
 
-  -- 6: only from a switch with more than one Default
+  -- 6: only from a second Default about to be marked. It is the refusal of `mark-default` alone, which only a Default calls; any other label that is
+  -- marked already would give 24, and `refusal-numbers` shows that none does. So the tree has a switch with more than one Default
   pub refused-6 : compileOf file listWords room ≡ refused 6 → Somewhere Two-defaults (statementsOf file)
   refused-6 = causes.six limits01 some-action file listWords room
 

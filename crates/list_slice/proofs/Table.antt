@@ -18,7 +18,7 @@ use Rattle.script.specs.Write as file
 use Rattle.script.specs.Write.{bytesOf, endsFrom, rowsOfTrees, recordWords, write}
 use Rattle.special_properties.specs.Text.{bytes}
 use Rattle.special_properties.specs.SpecialProperties.{names, same, toAsciiLowercase, firstFrom, getSpecialProperty}
-use Rattle.lowering.specs.Builder.{limits01, _>>=_, _>>_, pure, refuse, create-label, stack-size, assume-stack-delta, action-with-stack-delta, mark-label, push, add, define-function}
+use Rattle.lowering.specs.Builder.{limits01, _>>=_, _>>_, pure, refuse, create-label, stack-size, assume-stack-delta, action-with-stack-delta, mark-label, mark-default, push, add, define-function}
 use Rattle.lowering.specs.Meaning.{list}
 use Rattle.lowering.specs.Statement.{Lists, lists, meanings, generate-actions, script-to-actions}
 use Rattle.utf8.specs.Utf8.{utf8, completes, next, started}
@@ -81,7 +81,7 @@ S3-lists = (act (Action.plain (Plain.ConstantPool (bytes "b" ∷ []))) ∷ Item.
     single op.Not ∷ act (Action.branch Branching.If 1) ∷ act (Action.branch Branching.Jump 0) ∷ Item.mark 1 ∷ []) ∷ []
 
 S3-lowered : lowered S3-file ≡ items S3-lists
-unfolding names same toAsciiLowercase firstFrom getSpecialProperty _>>=_ _>>_ pure refuse create-label stack-size assume-stack-delta action-with-stack-delta mark-label push add define-function meanings generate-actions script-to-actions wordAt layoutOf endAt stringAt rowAt rowsFrom rowsOf spanAt forestIn forest signed binaryOperators unaryOf constantOf conditionOf statementKinds exprKinds plainOf recordOf treeIn resolved scriptOf bytesOf endsFrom rowsOfTrees recordWords write mapForest count file.text
+unfolding names same toAsciiLowercase firstFrom getSpecialProperty _>>=_ _>>_ pure refuse create-label stack-size assume-stack-delta action-with-stack-delta mark-label mark-default push add define-function meanings generate-actions script-to-actions wordAt layoutOf endAt stringAt rowAt rowsFrom rowsOf spanAt forestIn forest signed binaryOperators unaryOf constantOf conditionOf statementKinds exprKinds plainOf recordOf treeIn resolved scriptOf bytesOf endsFrom rowsOfTrees recordWords write mapForest count file.text
 S3-lowered = refl
 
 -- the last item first: mark 1, Jump, If, Not, GetVariable, the value, mark 0, the pool of one string
@@ -134,7 +134,7 @@ function-lists =
     (act (Action.push (Value.Float 0x3FF8000000000000 ∷ [])) ∷ single op.Pop ∷ []) ∷ []
 
 function-lowered : lowered function-file ≡ items function-lists
-unfolding names same toAsciiLowercase firstFrom getSpecialProperty _>>=_ _>>_ pure refuse create-label stack-size assume-stack-delta action-with-stack-delta mark-label push add define-function meanings generate-actions script-to-actions wordAt layoutOf endAt stringAt rowAt rowsFrom rowsOf spanAt forestIn forest signed binaryOperators unaryOf constantOf conditionOf statementKinds exprKinds plainOf recordOf treeIn resolved scriptOf bytesOf endsFrom rowsOfTrees recordWords write mapForest count file.text
+unfolding names same toAsciiLowercase firstFrom getSpecialProperty _>>=_ _>>_ pure refuse create-label stack-size assume-stack-delta action-with-stack-delta mark-label mark-default push add define-function meanings generate-actions script-to-actions wordAt layoutOf endAt stringAt rowAt rowsFrom rowsOf spanAt forestIn forest signed binaryOperators unaryOf constantOf conditionOf statementKinds exprKinds plainOf recordOf treeIn resolved scriptOf bytesOf endsFrom rowsOfTrees recordWords write mapForest count file.text
 function-lowered = refl
 
 -- list 1 finishes before the top list

@@ -19,7 +19,7 @@ use Rattle.pcode.specs.declared.Op.the-variants as op
 use Rattle.pcode.specs.Pcode.{Value, Integer, Constant, Null, Item, Action, Plain, Branching, Header, DefineFunction, DefineFunction2, ConstantPool, GotoFrame, GotoLabel, StoreRegister}
 use Rattle.special_properties.specs.Text.{bytes}
 use Rattle.special_properties.specs.SpecialProperties.{names, same, toAsciiLowercase, firstFrom, getSpecialProperty}
-use Rattle.lowering.specs.Builder.{limits01, _>>=_, _>>_, pure, refuse, create-label, stack-size, assume-stack-delta, action-with-stack-delta, mark-label, push, add, define-function}
+use Rattle.lowering.specs.Builder.{limits01, _>>=_, _>>_, pure, refuse, create-label, stack-size, assume-stack-delta, action-with-stack-delta, mark-label, mark-default, push, add, define-function}
 use Rattle.lowering.proofs.Theorems.Facts.{All, In-range}
 use Rattle.lowering.specs.Statement.{Lists, lists, refusal, meanings, generate-actions, script-to-actions}
 
@@ -275,7 +275,7 @@ rows = S1 ∷ S2 ∷ S3 ∷ S4 ∷ S5 ∷ S6 ∷ S7 ∷ S8 ∷ S9 ∷ S10 ∷ S1
 
 -- every script of the table gives what its row says
 pub table : map (λ (r : Row). script-to-actions limits01 (r .script)) rows ≡ map (λ (r : Row). r .expected) rows
-unfolding names same toAsciiLowercase firstFrom getSpecialProperty _>>=_ _>>_ pure refuse create-label stack-size assume-stack-delta action-with-stack-delta mark-label push add define-function meanings generate-actions script-to-actions
+unfolding names same toAsciiLowercase firstFrom getSpecialProperty _>>=_ _>>_ pure refuse create-label stack-size assume-stack-delta action-with-stack-delta mark-label mark-default push add define-function meanings generate-actions script-to-actions
 table = refl
 
 -- the limits: the count of items of a script's top list, or its refusal
@@ -304,7 +304,7 @@ edges = (many 511 get-time and stop) ∷ (many 511 get-time and stop and stop) �
     (switch no-tree) ∷ many 1025 (switch no-tree) ∷ []
 
 limits : map (λ (f : Forest Rec). size (script-to-actions limits01 f)) edges ≡ 1024 ∷ 8 ∷ 4 ∷ 8 ∷ 1 ∷ 8 ∷ []
-unfolding names same toAsciiLowercase firstFrom getSpecialProperty _>>=_ _>>_ pure refuse create-label stack-size assume-stack-delta action-with-stack-delta mark-label push add define-function meanings generate-actions script-to-actions
+unfolding names same toAsciiLowercase firstFrom getSpecialProperty _>>=_ _>>_ pure refuse create-label stack-size assume-stack-delta action-with-stack-delta mark-label mark-default push add define-function meanings generate-actions script-to-actions
 limits = refl
 
 -- scalars in range are no empty premise

@@ -131,9 +131,17 @@ unfoldable pub assume-stack-delta : Delta → Step
 assume-stack-delta d s = ok tt (with-items (s .builder .items) (moved d (s .builder .size)) 0 0 s)
 
 -- a label that is marked already, or was never made, is refused
-unfoldable pub mark-label : ℕ → Step
-mark-label l s = allow (eqb (getD (s .labels) l 1) 0) 6 s
+abbrev pub mark-or : (number label : ℕ) → Step
+mark-or n l s = allow (eqb (getD (s .labels) l 1) 0) n s
     (ok tt (with-items (Item.mark l ∷ s .builder .items) (s .builder .size) 0 0 (with-labels (set (s .labels) l 1) s)))
+
+-- at a label that is marked already the Rust panics: 24, which is no refusal of document 01 and which no script gets (`refusal-number`)
+unfoldable pub mark-label : ℕ → Step
+mark-label l = mark-or 24 l
+
+-- the mark of a switch's Default: 6 if another Default has marked the label
+unfoldable pub mark-default : ℕ → Step
+mark-default l = mark-or 6 l
 
 unfoldable pub action-with-stack-delta : Action → Delta → Step
 action-with-stack-delta a d s = allow (ltb (s .actions) (s .limits .actions)) 8 s

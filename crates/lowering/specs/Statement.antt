@@ -15,7 +15,7 @@ use Rattle.hir.specs.Tree.{Forest, more}
 use Rattle.pcode.specs.declared.Op.{Op}
 use Rattle.pcode.specs.declared.Op.the-variants.{Add2, BitXor, CloneSprite, Decrement, DefineLocal, DefineLocal2, Enumerate2, Equals2, GetProperty, Increment, InitArray, InitObject, Not, Play, Pop, PushDuplicate, Return, SetProperty, StartDrag, StrictEquals, Subtract, Throw}
 use Rattle.pcode.specs.Pcode.{Value, Null, Undefined, Integer, Float, Param, Header, DefineFunction, DefineFunction2, Branching, Action, Item, op, ConstantPool, GotoFrame, GotoFrame2, GotoLabel, up, down}
-use Rattle.lowering.specs.Builder.{M, Step, State, Result, ok, refused, Limits, _>>=_, _>>_, pure, refuse, done, when, create-label, stack-size, assume-stack-delta, action-with-stack-delta, plain-action, mark-label, action, push, push-string, truncate-stack, define-function}
+use Rattle.lowering.specs.Builder.{M, Step, State, Result, ok, refused, Limits, _>>=_, _>>_, pure, refuse, done, when, create-label, stack-size, assume-stack-delta, action-with-stack-delta, plain-action, mark-label, mark-default, action, push, push-string, truncate-stack, define-function}
 use Rattle.lowering.specs.Access.{Access, Direct, Object, _gives_, store-register, for-identifier, for-constant, get-value, set-value, get-and-set-value, delete, call-new, call}
 use Rattle.lowering.specs.Operators.{Plan, trivial, trivial-not, trivial-assign, assign, logical-and, logical-or, plan, simple-action}
 use Rattle.lowering.specs.Meaning.{Loop, Meaning, kid, list, width, Shape, shapeOf, Literal, string, integer, float, no-literal, literal, present, param, Element, element, hoisted}
@@ -135,7 +135,7 @@ gen-conditionals (Statement s ∷ xs) = gen-conditionals xs
 abbrev pub gen-elements : Loop → ℕ → List SwitchElement → Step
 gen-elements loop default [] = done
 gen-elements loop default (Case label value ∷ xs) = gen-elements loop default xs >> mark-label label
-gen-elements loop default (Default label ∷ xs) = gen-elements loop default xs >> mark-label default
+gen-elements loop default (Default label ∷ xs) = gen-elements loop default xs >> mark-default default
 gen-elements loop default (Statement s ∷ xs) = gen-elements loop default xs >> when (has-case xs || has-default xs) (s .gen-statement loop)
 
 abbrev pub gen-cases : Loop → Meaning → ℕ → List SwitchElement → Step

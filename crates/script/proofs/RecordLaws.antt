@@ -18,7 +18,8 @@ use Rattle.script_records.specs.Layout.{Words, wordsOf, rowIn, spanAt, forest, 
 use Rattle.script_records.specs.Parts.{treesIn, lastTree}
 use Rattle.script.specs.Forms.{Class, Sort, one, optional, list, constraints, expr, isClass, isList, isSort, allOf, matches, trees, fits, formOf, hasForm, form, counted, unsupported, unknown}
 use Rattle.script.specs.FormCode.{classFrom, sortFrom, sortsIn, sortsFrom, formFrom, scalarFrom, scalarsFit}
-use Rattle.script.specs.Rules.{partedIn, parted, siblingsOf, countOf, recordHolds}
+use Rattle.script.specs.Rules.{partedIn, parted, recordHolds}
+use Rattle.script.specs.Siblings.{siblingsOf, countOf}
 use Rattle.script_records.proofs.Trees.{forest-none, forest-more, trees-none, tree-more, tree-less, span-le, span-pos}
 
 -- a part without subtrees, and one whose last subtree is t

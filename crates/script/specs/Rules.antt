@@ -2,7 +2,6 @@
 use Prim.Native.Nat.{ℕ, zero, suc, _+_, _-_, _*_}
 use mathlib.Core.List.{List, [], _∷_}
 use mathlib.Core.Bool.{Bool, true, false, cond, not, _&&_, _||_}
-use mathlib.Core.Option.{Option, some, none}
 use lib.Dec.{ltb, leb, eqb}
 use lib.ListN.{length}
 use Rattle.hir.specs.Hir.{Str}
@@ -13,11 +12,7 @@ use Rattle.script.specs.declared.Answer.the-variants.{Accepted, BrokenRu
 use Rattle.script_records.specs.declared.layout.Layout.{Layout}
 use Rattle.script_records.specs.declared.layout.Row.{Row}
 use Rattle.script_records.specs.Layout.{Words, wordsOf, hasTrailer, areasTouch, supported, layoutOf, endAt, startAt, stringsOf, rowsOf, rowIn, spanAt, forest, childrenOf}
-use Rattle.script.specs.Forms.{statement, isList, trees, fits}
-use Rattle.script_records.specs.declared.part.Part.{Part}
-use Rattle.script.specs.declared.record_rules.Siblings.{Siblings}
-use Rattle.script.specs.declared.record_rules.Siblings.the-variants.{Broken, Count}
-use Rattle.script_records.specs.Parts.{treesIn}
+use Rattle.script.specs.Forms.{statement, isList, fits}
 
 -- every number below n passes
 unfoldable pub allBelow : (ℕ → Bool) → ℕ → Bool
@@ -38,14 +33,6 @@ partedIn (suc k) rs e (suc m) =
 
 unfoldable pub parted : List Row → ℕ → ℕ → Bool
 parted rs e n = partedIn n rs e n
-
--- how many subtrees a part has, if it is parted
-abbrev pub siblingsOf : List Row → Part → Option ℕ
-siblingsOf rs p = cond (parted rs (p .end) (p .n)) (some (trees (treesIn rs p))) none
-
-abbrev pub countOf : Siblings → Option ℕ
-countOf Broken = none
-countOf (Count n) = some n
 
 -- record i holds, in a file of m strings: its size counts itself and subtrees in a row, and its words and children have its kind's form
 unfoldable pub recordHolds : ℕ → List Row → ℕ → Bool

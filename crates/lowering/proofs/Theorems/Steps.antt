@@ -15,7 +15,7 @@ use Rattle.hir.specs.Hir.{Str}
 use Rattle.pcode.specs.Pcode.{Value, String, Constant, Header, Action, Item, Plain, Branching, Delta, moved}
 use Rattle.special_properties.specs.SpecialProperties.{sameBytes}
 use Rattle.lowering.specs.Strings.{find}
-use Rattle.lowering.specs.Builder.{Limits, M, Step, State, Result, ok, refused, bind, allow, _>>=_, _>>_, pure, refuse, with-items, with-labels, with-constants, create-label, stack-size, assume-stack-delta, action-with-stack-delta, mark-label, push, push-joined, join, ends-in-push, add, add-new, add-found, joins, potential-length, in-new-list, defined, close, define-function}
+use Rattle.lowering.specs.Builder.{Limits, M, Step, State, Result, ok, refused, bind, allow, _>>=_, _>>_, pure, refuse, with-items, with-labels, with-constants, create-label, stack-size, assume-stack-delta, action-with-stack-delta, mark-or, mark-label, mark-default, push, push-joined, join, ends-in-push, add, add-new, add-found, joins, potential-length, in-new-list, defined, close, define-function}
 use Rattle.lowering.specs.Statement.{pool}
 use Rattle.lowering.proofs.Theorems.Facts.{All, label-of, branches, counted, count, Closed, is-action, pushed-by, sum, function-list, At, here, there, Value-ok, Header-ok, Plain-ok, Item-ok, Full}
 use Rattle.lowering.proofs.Theorems.Invariant.{Each, Origin, after, Runs, begin, begin-top, plain, function, Ranged, next, Waiting, Marked, Free, Context, Pooled, Covered, Grows, After, Post, Good, Value-is, Yields}
@@ -348,17 +348,24 @@ module _ {K : Context} {O : List ℕ} (l : ℕ) where
       wide x (inl q) = inl (grown (eqb l x) (count x (s .builder .items)) q)
       wide x (inr q) = inr q
 
+good-mark-or : {K : Context} {O : List ℕ} (n l : ℕ) → Good K O (l ∷ []) (mark-or n l)
+good-mark-or n l = record { run = λ o w s c f. rw (f l (List·Memᴰ·head refl)) (marked-after l o w s c (f l (List·Memᴰ·head refl))) }
+
 pub good-mark : {K : Context} {O : List ℕ} (l : ℕ) → Good K O (l ∷ []) (mark-label l)
 unfolding mark-label
-good-mark l = record { run = λ o w s c f. rw (f l (List·Memᴰ·head refl)) (marked-after l o w s c (f l (List·Memᴰ·head refl))) }
+good-mark l = good-mark-or 24 l
+
+pub good-first : {K : Context} {O : List ℕ} (l : ℕ) → Good K O (l ∷ []) (mark-default l)
+unfolding mark-default
+good-first l = good-mark-or 6 l
 
 pub good-mark-then : {K : Context} {O F : List ℕ} {B : Type 0} (l : ℕ) {k : M B} → (List·Memᴰ l F → ⊥) → Good K O F k →
     Good K O (l ∷ F) (mark-label l >> k)
 good-mark-then {F = F} l n g = good-both (good-mark l) g (λ x p q. n (Memᴰ·cast (sym (List·Memᴰ·eq-of-singleton p)) q))
 
 -- a label that the step before has marked: the one refusal 6
-pub good-second : {K : Context} {O F : List ℕ} {m : Step} (l : ℕ) → List·Memᴰ l F → K .cause 6 → Good K O F m → Good K O F (m >> mark-label l)
-unfolding _>>_ mark-label
+pub good-second : {K : Context} {O F : List ℕ} {m : Step} (l : ℕ) → List·Memᴰ l F → K .cause 6 → Good K O F m → Good K O F (m >> mark-default l)
+unfolding _>>_ mark-default
 good-second {K} {O} {F} {m} l i p g = record { run = λ o w s c f. go o w s (m s) (g .run o w s c f) }
   where
     second : (o : Origin) (w : Waiting) (s t : State) → After K O F o w s t → (b : Bool) → eqb (getD (t .labels) l 1) 0 ≡ b →

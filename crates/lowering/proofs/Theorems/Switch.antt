@@ -12,14 +12,14 @@ use lib.ListN.{length}
 use Rattle.hir.specs.Tree.{Forest, more}
 use Rattle.pcode.specs.Pcode.{Branching, up}
 use Rattle.pcode.specs.Pcode as pcode
-use Rattle.lowering.specs.Builder.{Limits, M, Step, State, Result, ok, refused, bind, allow, _>>=_, _>>_, pure, when, create-label, mark-label, push}
+use Rattle.lowering.specs.Builder.{Limits, M, Step, State, Result, ok, refused, bind, allow, _>>=_, _>>_, pure, when, create-label, mark-default, push}
 use Rattle.lowering.specs.Access.{store-register}
 use Rattle.lowering.specs.Meaning.{Loop, Meaning, Element, case, default, statement, element}
 use Rattle.lowering.specs.Statement
 use Rattle.lowering.specs.Statement.{SwitchElement, Case, Default, Statement, has-case, has-default, default-label, with-label, with-labels}
 use Rattle.lowering.proofs.Theorems.Facts.{is-default}
 use Rattle.lowering.proofs.Theorems.Invariant.{Context, Each, Origin, Waiting, Covered, Grows, After, Post, Free, Marked, Good}
-use Rattle.lowering.proofs.Theorems.Steps.{either, made, made-free, made-kept, made-longer, covered-made, full-labels, with-each, grows-same, free-in, good, good-pure, good-then, good-both, good-mark, good-second, good-branch}
+use Rattle.lowering.proofs.Theorems.Steps.{either, made, made-free, made-kept, made-longer, covered-made, full-labels, with-each, grows-same, free-in, good, good-pure, good-then, good-both, good-mark, good-first, good-second, good-branch}
 use Rattle.lowering.proofs.Theorems.Constructs.{Within, Fine, All-fine, no-tree, one-more, good-when}
 
 -- the labels of the elements, and of the cases alone
@@ -344,9 +344,9 @@ module _ {K : Context} {O : List ℕ} where
         never e q = let z : _≡_ {A = ℕ} 0 1 = cc in omega arith
 
         go : (y : Bool) → has-default xs ≡ y → Good K O (spends d xs) (Statement.gen-elements loop d xs) →
-            Good K O (with-default y d (spends d xs)) (Statement.gen-elements loop d xs >> mark-label d)
+            Good K O (with-default y d (spends d xs)) (Statement.gen-elements loop d xs >> mark-default d)
         go true e g = good-second d (default-spent d xs e) (p (omega (arith, some-default xs e))) g
-        go false e g = good-both g (good-mark d) (λ y q r. either n (λ m. never e (m .1))
+        go false e g = good-both g (good-first d) (λ y q r. either n (λ m. never e (m .1))
             (spent-is d d xs (Memᴰ·cast (sym (List·Memᴰ·eq-of-singleton r)) q)))
     good-elements (a-statement {m = m} {xs = xs} x r) h n p = good-before (good-elements r h n p)
         (good-when (has-case xs || has-default xs) (m .gen-statement loop) (x .statement-good loop b c))
