@@ -61,7 +61,7 @@ module _ (F p q : List ℕ) where
   added-same (value true v) is h = rw (value-same v)
   added-same (value false v) is h = ap (λ (x : Value). extended x is) (value-same v)
 
-  gathered-same : (ps : List Piece) → Alike p q (joined (map pool-count ps)) → gathered (inFile F p) ps ≡ gathered (inFile F q) ps
+  pub gathered-same : (ps : List Piece) → Alike p q (joined (map pool-count ps)) → gathered (inFile F p) ps ≡ gathered (inFile F q) ps
   unfolding gathered joined
   gathered-same [] h = refl
   gathered-same (x ∷ ps) h =

@@ -1,1 +1,2 @@
 pub mod Pcode
+pub mod Moves

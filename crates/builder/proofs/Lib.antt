@@ -1,0 +1,16 @@
+pub mod Words
+pub mod Codes
+pub mod Leaves
+pub mod Actions
+pub mod Numbers
+pub mod Pushes
+pub mod Marks
+pub mod Pops
+pub mod Elements
+pub mod Body
+pub mod Move
+pub mod Ended
+pub mod FinishItems
+pub mod FinishWords
+pub mod FinishReads
+pub mod FinishHolds

@@ -1,0 +1,5 @@
+pub mod Entries
+pub mod Values
+pub mod Labels
+pub mod Move
+pub mod Places

@@ -1,0 +1,5 @@
+pub mod Nodes
+pub mod Meanings
+pub mod Counting
+pub mod Accepted
+pub mod Kids

@@ -1,0 +1,159 @@
+// The tree of a script file, node by node. A node's children, and those before a sibling, are parts of the records.
+ghost use mathlib.Core.Path.{_≡_};
+ghost use Rattle.tree.specs.Count.{Few, withTree};
+ghost use Rattle.tree.specs.Trees.{nodeOf, elementOf, trees, countsOf};
+ghost use Rattle.tree.specs.Within.{Within, IsKid, IsList};
+use hir::Record;
+use script_records::decode::record_of;
+use script_records::layout::Layout;
+use script_records::part::Part;
+use script_records::part::last_tree;
+
+// The last tree of a part: its record, the record's number, its children, and the trees before it. Of no tree the record is Absent.
+pub struct Node {
+    pub root: Record,
+    pub number: usize,
+    pub children: Part,
+    pub before: Part,
+}
+
+pub fn node_at(file: &[u8], l: Layout, p: Part) -> Node
+    ensures { λ r. ⌜ r ≡ nodeOf (now (file .entry)) l p ⌝ }
+{
+    if p.n == 0 {
+        return Node {
+            root: Record::Absent,
+            number: 0,
+            children: p,
+            before: p,
+        };
+    }
+    let t = last_tree(file, l, p);
+    let row = t.row;
+    let root = record_of(row);
+    let children = t.children;
+    let before = t.before;
+    Node {
+        root,
+        number: children.end,
+        children,
+        before,
+    }
+}
+
+// What stands in a switch's list.
+pub enum Element {
+    Case,
+    Default,
+    Statement,
+}
+
+pub fn element_of(root: Record) -> Element
+    ensures { λ r. ⌜ r ≡ elementOf root ⌝ }
+{
+    match root {
+        Record::Case => Element::Case,
+        Record::Default => Element::Default,
+        Record::Statement(_) => Element::Statement,
+        Record::Expr(_) => Element::Statement,
+        Record::Absent => Element::Statement,
+        Record::List(_) => Element::Statement,
+        Record::ObjectField(_) => Element::Statement,
+        Record::Parameter {
+            name: _,
+            register: _,
+        } => Element::Statement,
+        Record::Other => Element::Statement,
+    }
+}
+
+// Of the trees in a row: how many there are, how many of them are Case or Default, how many Case, and how many of the labelled ones stand from the
+// last Default on (0 if there is no Default).
+pub struct Counts {
+    pub trees: u32,
+    pub labels: u32,
+    pub cases: u32,
+    pub from_default: u32,
+}
+
+// One tree more, before those that were counted.
+fn with_tree(element: Element, after: Counts) -> Counts
+    requires { ⌜ Few after ⌝ }
+    ensures { λ r. ⌜ r ≡ withTree element after ⌝ }
+{
+    let trees = after.trees + 1;
+    let labels = after.labels;
+    let cases = after.cases;
+    let from_default = after.from_default;
+    match element {
+        Element::Case => Counts {
+            trees,
+            labels: labels + 1,
+            cases: cases + 1,
+            from_default,
+        },
+        Element::Default => Counts {
+            trees,
+            labels: labels + 1,
+            cases,
+            from_default: if from_default == 0 {
+                labels + 1
+            } else {
+                from_default
+            },
+        },
+        Element::Statement => Counts {
+            trees,
+            labels,
+            cases,
+            from_default,
+        },
+    }
+}
+
+pub fn counts_of(file: &[u8], l: Layout, p: Part) -> Counts
+    requires { ⌜ Within (now file) l p ⌝ }
+    ensures { λ r. ⌜ r ≡ countsOf (trees (now (file .entry)) p) ⌝ }
+{
+    let mut found = Counts {
+        trees: 0,
+        labels: 0,
+        cases: 0,
+        from_default: 0,
+    };
+    let mut left = p;
+    while left.n != 0 {
+        let node = node_at(file, l, left);
+        let root = node.root;
+        let element = element_of(root);
+        found = with_tree(element, found);
+        let before = node.before;
+        left = before;
+    }
+    found
+}
+
+// The part whose last tree is the one n places before the last, and that tree's children.
+pub fn kid_at(file: &[u8], l: Layout, p: Part, n: u32) -> Part
+    requires { ⌜ Within (now file) l p ⌝ }
+    ensures { λ r. ⌜ IsKid (now (file .entry)) l p n r ⌝ }
+{
+    let mut left = p;
+    let mut i: u32 = 0;
+    while i < n {
+        let node = node_at(file, l, left);
+        let before = node.before;
+        left = before;
+        i += 1;
+    }
+    left
+}
+
+pub fn list_at(file: &[u8], l: Layout, p: Part, n: u32) -> Part
+    requires { ⌜ Within (now file) l p ⌝ }
+    ensures { λ r. ⌜ IsList (now (file .entry)) l p n r ⌝ }
+{
+    let kid = kid_at(file, l, p, n);
+    let node = node_at(file, l, kid);
+    node.children
+}
