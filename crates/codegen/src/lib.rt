@@ -1,2 +1,2 @@
 // The ring of `statement.rs`: what each statement, expression, access and function body generates.
-mod statement;
+pub mod statement;

@@ -1,0 +1,187 @@
+// A script file is lowered (`as2_codegen.rs`, `script_to_actions`): checked first, then its statements generated into the list slice.
+ghost use mathlib.Core.Path.{_≡_};
+ghost use mathlib.Core.List.{List};
+ghost use Prim.Native.Nat.{ℕ, _≤_};
+ghost use lib.ListN.{length};
+ghost use Rattle.script.specs.Rules.{checkOf, refusalOf};
+ghost use Rattle.lowering.specs.Builder.{limits01};
+ghost use Rattle.lowering.specs.Statement.{no-loop, gen-statements};
+ghost use Rattle.list_slice.specs.Words.{zerosOf};
+ghost use Rattle.codegen_state.specs.Does.{Does};
+ghost use Rattle.tree.specs.Within.{meaningsAt};
+ghost use Rattle.as2_codegen.specs.Lowering.{answerNumber, Lowers};
+ghost use Rattle.as2_codegen.specs.Begin.{Begun, statementsPart, Generating};
+use builder::entries::put;
+use builder::finish::into_actions;
+use codegen::statement::gen_statements;
+use codegen_state::CodeBuilder;
+use rows::no_loop;
+use script::Answer;
+use script_records::layout::Layout;
+use script_records::layout::layout_of;
+use script_records::part::Part;
+
+// The lists stand in the list slice, or the refusal.
+pub enum Lowered {
+    Lists,
+    Refused(u32),
+}
+
+// Only zeros.
+pub fn clear(list: &mut [u32])
+    ensures { λ r. ⌜ now (list .exit) ≡ zerosOf (length (now (list .entry))) ⌝ }
+{
+    let mut i: usize = 0;
+    while i < list.len() {
+        list[i] = 0;
+        i += 1;
+    }
+}
+
+// Document 01's number, 0 for an accepted file.
+fn number_of(a: Answer) -> u32
+    ensures { λ r. ⌜ r ≡ refusalOf a ⌝ }
+{
+    match a {
+        Answer::Accepted => 0,
+        Answer::BrokenRule => 1,
+        Answer::NotUtf8 => 2,
+        Answer::Unsupported => 3,
+        Answer::OverLimit => 4,
+    }
+}
+
+// The pool's place is kept, as action 1; `Constants::empty` sets the pool's total to 2.
+fn begin(list: &mut [u32]) -> CodeBuilder
+    requires { ⌜ 16384 ≤ length (now list) ⌝ }
+    requires { ⌜ now list ≡ zerosOf (length (now list)) ⌝ }
+    ensures { λ r. ⌜ ((F : List ℕ) → Begun F r (now (list .exit))) ⌝ }
+{
+    put(list, 4095, 0x88, 0, 0);
+    CodeBuilder {
+        refused: 0,
+        actions: 1,
+        values: 0,
+        labels: 0,
+        marks: 0,
+        constants: 0,
+        total: 2,
+        lists: 0,
+        size: 0,
+        sizes: 0,
+        low: 0,
+        top: 4095,
+        base: 4096,
+    }
+}
+
+// The records between an accepted file's first and its root: the trees of its statements.
+fn statements_of(l: Layout) -> Part
+    ensures { λ r. ⌜ r ≡ statementsPart l ⌝ }
+{
+    let count = l.count as usize;
+    if count == 0 {
+        return Part { end: 0, n: 0 };
+    }
+    Part {
+        end: count - 1,
+        n: count - 1,
+    }
+}
+
+// Few records need little scratch, which takes less time to clear.
+fn with_small(
+    file: &[u8],
+    l: Layout,
+    p: Part,
+    b: CodeBuilder,
+    list: &mut [u32],
+    scratch: &mut [usize; 1024],
+) -> CodeBuilder
+    requires { ⌜ Generating (now file) l p b (now list) ⌝ }
+    requires { ⌜ p .n ≤ 1024 ⌝ }
+    ensures { λ r. ⌜ Does (now (file .entry)) (gen-statements no-loop (meaningsAt (now (file .entry)) p)) b (now (list .entry)) tt r (now (list .exit)) ⌝ }
+{
+    gen_statements(file, l, p, b, list, scratch, no_loop())
+}
+
+fn with_large(
+    file: &[u8],
+    l: Layout,
+    p: Part,
+    b: CodeBuilder,
+    list: &mut [u32],
+    scratch: &mut [usize; 65536],
+) -> CodeBuilder
+    requires { ⌜ Generating (now file) l p b (now list) ⌝ }
+    ensures { λ r. ⌜ Does (now (file .entry)) (gen-statements no-loop (meaningsAt (now (file .entry)) p)) b (now (list .entry)) tt r (now (list .exit)) ⌝ }
+{
+    gen_statements(file, l, p, b, list, scratch, no_loop())
+}
+
+fn small(file: &[u8], l: Layout, p: Part, b: CodeBuilder, list: &mut [u32]) -> CodeBuilder
+    requires { ⌜ Generating (now file) l p b (now list) ⌝ }
+    requires { ⌜ p .n ≤ 1024 ⌝ }
+    ensures { λ r. ⌜ Does (now (file .entry)) (gen-statements no-loop (meaningsAt (now (file .entry)) p)) b (now (list .entry)) tt r (now (list .exit)) ⌝ }
+{
+    let mut scratch = [0usize; 1024];
+    with_small(file, l, p, b, list, &mut scratch)
+}
+
+fn large(file: &[u8], l: Layout, p: Part, b: CodeBuilder, list: &mut [u32]) -> CodeBuilder
+    requires { ⌜ Generating (now file) l p b (now list) ⌝ }
+    ensures { λ r. ⌜ Does (now (file .entry)) (gen-statements no-loop (meaningsAt (now (file .entry)) p)) b (now (list .entry)) tt r (now (list .exit)) ⌝ }
+{
+    let mut scratch = [0usize; 65536];
+    with_large(file, l, p, b, list, &mut scratch)
+}
+
+fn generate_actions(
+    file: &[u8],
+    l: Layout,
+    p: Part,
+    b: CodeBuilder,
+    list: &mut [u32],
+) -> CodeBuilder
+    requires { ⌜ Generating (now file) l p b (now list) ⌝ }
+    ensures { λ r. ⌜ Does (now (file .entry)) (gen-statements no-loop (meaningsAt (now (file .entry)) p)) b (now (list .entry)) tt r (now (list .exit)) ⌝ }
+{
+    if 1024 < p.n {
+        return large(file, l, p, b, list);
+    }
+    small(file, l, p, b, list)
+}
+
+// An accepted file, and a slice of zeros.
+fn lower(file: &[u8], list: &mut [u32]) -> Lowered
+    requires { ⌜ checkOf (now file) ≡ 0 ⌝ }
+    requires { ⌜ 16384 ≤ length (now list) ⌝ }
+    requires { ⌜ now list ≡ zerosOf (length (now list)) ⌝ }
+    ensures { λ r. ⌜ Lowers limits01 (now (file .entry)) (length (now (list .entry))) (answerNumber r) (now (list .exit)) ⌝ }
+{
+    let l = layout_of(file);
+    let p = statements_of(l);
+    let b = begin(list);
+    let done = generate_actions(file, l, p, b, list);
+    if done.refused != 0 {
+        clear(list);
+        return Lowered::Refused(done.refused);
+    }
+    into_actions(list, done);
+    Lowered::Lists
+}
+
+// A file of any content: its lists, or the one refusal among 13, 4, 1, 2, 3, 4, 5, 6, 7, 8, after which the slice has only zeros.
+pub fn script_to_actions(file: &[u8], list: &mut [u32]) -> Lowered
+    ensures { λ r. ⌜ Lowers limits01 (now (file .entry)) (length (now (list .entry))) (answerNumber r) (now (list .exit)) ⌝ }
+{
+    clear(list);
+    if list.len() < 16384 {
+        return Lowered::Refused(13);
+    }
+    let number = number_of(script::check(file));
+    if number != 0 {
+        return Lowered::Refused(number);
+    }
+    lower(file, list)
+}
