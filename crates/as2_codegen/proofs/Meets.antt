@@ -33,6 +33,7 @@ use Rattle.rows.specs.declared.Loop.{Loop}
 use Rattle.rows.specs.Rows.{loopOf}
 use Rattle.builder.specs.Places.{finished}
 use Rattle.builder.proofs.Body.{top-base}
+use Rattle.as2_codegen.specs.declared.Lowered.the-variants as lowered
 use Rattle.as2_codegen.specs.Begin.{Begun, statementsPart, Generating}
 use Rattle.as2_codegen.specs.Lowering.{loweredWith, inSlice, ifAccepted, numberOf, LeftList, Lowers}
 
@@ -77,8 +78,8 @@ module _ (F : List ℕ) (r : CodeBuilder) (w : List ℕ) (x : Waiting) where
       let q : r .refused ≡ n = cc in
       rw q
 
-refuses : (F : List ℕ) (n number : ℕ) → loweredWith limits01 F n ≡ refusal number → Lowers limits01 F n number (zerosOf n)
-refuses F n number e = record { answer = rw e; list-length = zeros-length n; whole-list = rw e (zeros-zeros n) }
+refuses : (F : List ℕ) (n number : ℕ) → loweredWith limits01 F n ≡ refusal number → Lowers limits01 F n (lowered.Refused number) (zerosOf n)
+refuses F n number e = record { answer = rw e; number = rw e; list-length = zeros-length n; whole-list = rw e (zeros-zeros n) }
 
 module _ (F : List ℕ) (accepted : checkOf F ≡ 0) where
   module _ (l : Layout) (p : Part) (is-layout : l ≡ layoutOf F) (is-part : p ≡ statementsPart l) where
@@ -119,12 +120,12 @@ module _ (F : List ℕ) (accepted : checkOf F ≡ 0) where
       unfolding loweredWith
       lowered-is = rw (le-ltb n 16384 room, accepted)
 
-      pub lowers-lists : (w″ : List ℕ) → r .refused ≡ 0 → length w″ ≡ n → Holds limits01 F (finished (state F r w′)) w″ → Lowers limits01 F n 0 w″
+      pub lowers-lists : (w″ : List ℕ) → r .refused ≡ 0 → length w″ ≡ n → Holds limits01 F (finished (state F r w′)) w″ → Lowers limits01 F n lowered.Lists w″
       lowers-lists w″ h l k =
           let e : loweredWith limits01 F n ≡ lists (finished (state F r w′)) = lowered-is ∙ lists-are h in
-          record { answer = rw e; list-length = l; whole-list = rw e k }
+          record { answer = rw e; number = rw e; list-length = l; whole-list = rw e k }
 
-      pub lowers-refusal : (r .refused ≡ 0 → ⊥) → Lowers limits01 F n (r .refused) (zerosOf n)
+      pub lowers-refusal : (r .refused ≡ 0 → ⊥) → Lowers limits01 F n (lowered.Refused (r .refused)) (zerosOf n)
       lowers-refusal h = refuses F n (r .refused) (lowered-is ∙ refusal-is h)
 
 -- the refusals before any statement
@@ -137,9 +138,9 @@ refused-file : (F : List ℕ) (n k : ℕ) → 16384 ≤ n → checkOf F ≡ suc 
 unfolding loweredWith
 refused-file F n k h e = rw (le-ltb n 16384 h, e)
 
-pub too-short : (F : List ℕ) (n : ℕ) → n < 16384 → Lowers limits01 F n 13 (zerosOf n)
+pub too-short : (F : List ℕ) (n : ℕ) → n < 16384 → Lowers limits01 F n (lowered.Refused 13) (zerosOf n)
 too-short F n h = refuses F n 13 (short-slice F n h)
 
-pub not-accepted : (F : List ℕ) (n number : ℕ) → 16384 ≤ n → checkOf F ≡ number → (number ≡ 0 → ⊥) → Lowers limits01 F n number (zerosOf n)
+pub not-accepted : (F : List ℕ) (n number : ℕ) → 16384 ≤ n → checkOf F ≡ number → (number ≡ 0 → ⊥) → Lowers limits01 F n (lowered.Refused number) (zerosOf n)
 not-accepted F n zero room e h = absurd (h refl)
 not-accepted F n (suc k) room e h = refuses F n (suc k) (refused-file F n k room e)

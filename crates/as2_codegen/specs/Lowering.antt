@@ -37,12 +37,17 @@ abbrev pub numberOf : Lists → ℕ
 numberOf (lists ls) = 0
 numberOf (refusal n) = n
 
+abbrev pub answerOf : Lists → Lowered
+answerOf (lists ls) = lowered.Lists
+answerOf (refusal n) = lowered.Refused n
+
 -- the list slice after the call: it holds the lists, or zeros
 abbrev pub LeftList : Limits → (file : List ℕ) → Lists → (list : List ℕ) → Type 0
 LeftList lim file (lists ls) list = Holds lim file ls list
 LeftList lim file (refusal n) list = list ≡ zerosOf (length list)
 
-pub record Lowers (lim : Limits) (file : List ℕ) (listWords number : ℕ) (list : List ℕ) : Type 0 where
-  pub answer : number ≡ numberOf (loweredWith lim file listWords)
+pub record Lowers (lim : Limits) (file : List ℕ) (listWords : ℕ) (r : Lowered) (list : List ℕ) : Type 0 where
+  pub answer : r ≡ answerOf (loweredWith lim file listWords)
+  pub number : answerNumber r ≡ numberOf (loweredWith lim file listWords)
   pub list-length : length list ≡ listWords
   pub whole-list : LeftList lim file (loweredWith lim file listWords) list

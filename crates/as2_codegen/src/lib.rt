@@ -9,7 +9,7 @@ ghost use Rattle.lowering.specs.Statement.{no-loop, gen-statements};
 ghost use Rattle.list_slice.specs.Words.{zerosOf};
 ghost use Rattle.codegen_state.specs.Does.{Does};
 ghost use Rattle.tree.specs.Within.{meaningsAt};
-ghost use Rattle.as2_codegen.specs.Lowering.{answerNumber, Lowers};
+ghost use Rattle.as2_codegen.specs.Lowering.{Lowers};
 ghost use Rattle.as2_codegen.specs.Begin.{Begun, statementsPart, Generating};
 use builder::entries::put;
 use builder::finish::into_actions;
@@ -157,7 +157,7 @@ fn lower(file: &[u8], list: &mut [u32]) -> Lowered
     requires { ⌜ checkOf (now file) ≡ 0 ⌝ }
     requires { ⌜ 16384 ≤ length (now list) ⌝ }
     requires { ⌜ now list ≡ zerosOf (length (now list)) ⌝ }
-    ensures { λ r. ⌜ Lowers limits01 (now (file .entry)) (length (now (list .entry))) (answerNumber r) (now (list .exit)) ⌝ }
+    ensures { λ r. ⌜ Lowers limits01 (now (file .entry)) (length (now (list .entry))) r (now (list .exit)) ⌝ }
 {
     let l = layout_of(file);
     let p = statements_of(l);
@@ -173,7 +173,7 @@ fn lower(file: &[u8], list: &mut [u32]) -> Lowered
 
 // A file of any content: its lists, or the one refusal among 13, 4, 1, 2, 3, 4, 5, 6, 7, 8, after which the slice has only zeros.
 pub fn script_to_actions(file: &[u8], list: &mut [u32]) -> Lowered
-    ensures { λ r. ⌜ Lowers limits01 (now (file .entry)) (length (now (list .entry))) (answerNumber r) (now (list .exit)) ⌝ }
+    ensures { λ r. ⌜ Lowers limits01 (now (file .entry)) (length (now (list .entry))) r (now (list .exit)) ⌝ }
 {
     clear(list);
     if list.len() < 16384 {

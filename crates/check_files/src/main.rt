@@ -2,11 +2,9 @@
 ghost use Prim.Native.Nat.{_≤_};
 ghost use mathlib.Core.Path.{_≡_};
 ghost use Rattle.script.specs.Rules.{checkOf, refusalOf};
-use crate::text::decode;
-use crate::text::find;
 use script::Answer;
-
-mod text;
+use text_lines::decode;
+use text_lines::find;
 
 // Document 01's number, 0 for an accepted file.
 fn number_of(a: Answer) -> u8

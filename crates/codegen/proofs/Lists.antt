@@ -124,7 +124,7 @@ module _ {F : List ℕ} {l : Layout} {x0 : List ℕ} {last lo : ℕ} {g0 : Part}
   pub push-inside : (g .n ≡ 0 → ⊥) → top < length x
   push-inside h = omega (arith, i .less, i .scratch, i .room)
 
-  pub push-again : {t : Node} → (g .n ≡ 0 → ⊥) → t ≡ nodeOf F l g → PushInv F l x0 last lo g0 (set x top (g .end)) (t .before) (top + 1)
+  push-again : {t : Node} → (g .n ≡ 0 → ⊥) → t ≡ nodeOf F l g → PushInv F l x0 last lo g0 (set x top (g .end)) (t .before) (top + 1)
   push-again {t} h e =
       let r = is-node F l g (i .within) e in
       let d : g .n ≡ g .end - lo = omega (arith, i .end) in
@@ -140,8 +140,14 @@ module _ {F : List ℕ} {l : Layout} {x0 : List ℕ} {last lo : ℕ} {g0 : Part}
         room = i .room;
       }
 
-  pub push-less : {t : Node} → (g .n ≡ 0 → ⊥) → t ≡ nodeOf F l g → t .before .n < g .n
+  push-less : {t : Node} → (g .n ≡ 0 → ⊥) → t ≡ nodeOf F l g → t .before .n < g .n
   push-less h e = omega (arith, is-node F l g (i .within) e .apart)
+
+  pub push-rest : {r : Part} → (g .n ≡ 0 → ⊥) → r ≡ nodeOf F l g .before → PushInv F l x0 last lo g0 (set x top (g .end)) r (top + 1)
+  push-rest h e = rw e (push-again {t = nodeOf F l g} h refl)
+
+  pub rest-less : {r : Part} → (g .n ≡ 0 → ⊥) → r ≡ nodeOf F l g .before → r .n < g .n
+  rest-less h e = rw e (push-less {t = nodeOf F l g} h refl)
 
 -- a row, by its last tree
 module _ (F : List ℕ) (l : Layout) (p : Part) {t : Node} (i : IsNode F l p t) (h : 0 < p .n) where

@@ -94,10 +94,12 @@ use script_records::layout::Layout;
 use script_records::part::Part;
 use tree::Element;
 use tree::counts_of;
+use tree::element_at;
 use tree::element_of;
 use tree::kid_at;
 use tree::list_at;
 use tree::node_at;
+use tree::rest_of;
 
 // Named function expressions that are whole statements come first.
 pub fn gen_statements(
@@ -145,8 +147,7 @@ fn each(
         let end = left.end;
         scratch[top] = end;
         top += 1;
-        let t = node_at(file, l, left);
-        let before = t.before;
+        let before = rest_of(file, l, left);
         left = before;
     }
     let mut cur = b;
@@ -171,9 +172,7 @@ fn each(
             seen,
             cases,
         );
-        let t = node_at(file, l, part);
-        let root = t.root;
-        let e = element_of(root);
+        let e = element_at(file, l, part);
         seen = seen + is_labelled(e);
         cases = cases + is_case(e);
         done = end;

@@ -1,28 +1,32 @@
 -- What a parent looks at in a child's record.
-use Prim.Native.Nat.{ℕ, _+_, _-_, _≤_}
+use Prim.Native.Nat.{ℕ, zero, suc, _+_, _-_, _≤_}
 use mathlib.Core.Path.{_≡_, refl, sym}
-use mathlib.Core.Bool.{Bool, true, false, cond, _&&_}
+use mathlib.Core.Bool.{Bool, true, false, cond, not, _&&_}
 use mathlib.Core.List.{List, [], _∷_}
 use native.Mathlib.Omega.{arith}
-use lib.Dec.{T, eqb}
-use lib.ListN.{length}
+use lib.Dec.{T, ltb, eqb}
+use lib.ListN.{length, getD}
 use borrow.Author.Tests.{ne-eqb}
 use Rattle.hir.specs.Tree.{Forest}
 use Rattle.hir.specs.declared.Record.{Record}
 use Rattle.hir.specs.declared.Record.the-variants as kind
+use Rattle.hir.specs.declared.StatementKind.the-variants as statement
 use Rattle.pcode.specs.Pcode.{moved}
 use Rattle.script_records.specs.declared.layout.Layout.{Layout}
 use Rattle.script_records.specs.declared.part.Part.{Part}
-use Rattle.script_records.specs.Layout.{layoutOf, stringAt}
+use Rattle.script_records.specs.Layout.{Words, wordsOf, supported, rowsOf, layoutOf, stringAt}
+use Rattle.script_records.specs.Parts.{lastTree}
+use Rattle.script_records.specs.Decode.{statementKinds, plainOf, recordOf}
 use Rattle.script.specs.Resolve.{resolved}
 use Rattle.lowering.specs.Builder.{name-delta}
 use Rattle.lowering.specs.Meaning.{Meaning, Shape, param, hoisted, is-named, shapeOf, kid}
 use Rattle.lowering.specs.Statement.{meanings}
 use Rattle.list_slice.specs.File.{textIn, namesString}
 use Rattle.tree.specs.declared.Node.{Node}
-use Rattle.tree.specs.Trees.{recOf, trees, nodeOf}
+use Rattle.tree.specs.Trees.{recOf, trees, nodeOf, kindAt}
 use Rattle.tree.specs.Within.{Within, record-named, kidAt, listAt}
 use Rattle.tree.proofs.Nodes.{is-node}
+use Rattle.tree.proofs.ByKind.{either}
 use Rattle.tree.proofs.Meanings.{kid-zero, list-zero}
 use Rattle.access.proofs.Texts.{text-is}
 
@@ -56,6 +60,70 @@ module _ (F : List ℕ) (l : Layout) (p : Part) {t : Node} (w : Within F l p) (e
   by-shape x {k} s q h m v =
       let within = is-node F l p w e .kids-within in
       sym (rw (q, kid-zero F l (t .children) (is-node F l (t .children) within m), ← v) at (inner x h))
+
+-- a statement that is an expression has the kind 3
+
+statement-kind : (F : List ℕ) (kids : Forest Meaning) (k : ℕ) → (k ≡ 3 → ⊥) → hoisted (recOf F (kind.Statement (getD statementKinds k statement.Break))) kids ≡ false
+unfolding resolved statementKinds
+statement-kind F kids zero h = refl
+statement-kind F kids (suc zero) h = refl
+statement-kind F kids (suc (suc zero)) h = refl
+statement-kind F kids (suc (suc (suc zero))) h = absurd (h refl)
+statement-kind F kids (suc (suc (suc (suc zero)))) h = refl
+statement-kind F kids (suc (suc (suc (suc (suc zero))))) h = refl
+statement-kind F kids (suc (suc (suc (suc (suc (suc zero)))))) h = refl
+statement-kind F kids (suc (suc (suc (suc (suc (suc (suc zero))))))) h = refl
+statement-kind F kids (suc (suc (suc (suc (suc (suc (suc (suc zero)))))))) h = refl
+statement-kind F kids (suc (suc (suc (suc (suc (suc (suc (suc (suc zero))))))))) h = refl
+statement-kind F kids (suc (suc (suc (suc (suc (suc (suc (suc (suc (suc zero)))))))))) h = refl
+statement-kind F kids (suc (suc (suc (suc (suc (suc (suc (suc (suc (suc (suc zero))))))))))) h = refl
+statement-kind F kids (suc (suc (suc (suc (suc (suc (suc (suc (suc (suc (suc (suc zero)))))))))))) h = refl
+statement-kind F kids (suc (suc (suc (suc (suc (suc (suc (suc (suc (suc (suc (suc (suc zero))))))))))))) h = refl
+statement-kind F kids (suc (suc (suc (suc (suc (suc (suc (suc (suc (suc (suc (suc (suc (suc zero)))))))))))))) h = refl
+statement-kind F kids (suc (suc (suc (suc (suc (suc (suc (suc (suc (suc (suc (suc (suc (suc (suc zero))))))))))))))) h = refl
+statement-kind F kids (suc (suc (suc (suc (suc (suc (suc (suc (suc (suc (suc (suc (suc (suc (suc (suc k)))))))))))))))) h = refl
+
+abbrev Unhoisted : List ℕ → Forest Meaning → Record → Type 0
+Unhoisted F kids r = hoisted (recOf F r) kids ≡ false
+
+other-kind : (F : List ℕ) (kids : Forest Meaning) (w : Words) → (w .kind ≡ 3 → ⊥) → Unhoisted F kids (recordOf w)
+unfolding recordOf plainOf resolved
+other-kind F kids w h =
+    let p = either (Unhoisted F kids) in
+    let k = w .kind in
+    p (eqb k 0) _ _ refl
+    (p (eqb k 5) _ _ refl
+    (p (eqb k 32) _ _ refl
+    (p (eqb k 40) _ _ refl
+    (p (eqb k 41) _ _ refl
+    (p (eqb k 49) _ _ refl
+    (p (eqb k 52) _ _ refl
+    (p (eqb k 69) _ _ refl
+    (p (eqb k 75) _ _ refl
+    (p (eqb k 76) _ _ refl
+    (p (eqb k 97) _ _ refl
+    (p (eqb k 98) _ _ refl
+    (p (eqb k 99) _ _ refl
+    (p (not (supported k)) _ _ refl
+    (p (ltb k 16) _ _ (statement-kind F kids k h)
+    (p (ltb k 32) _ _ refl
+    (p (ltb k 78) _ _ refl
+    (p (eqb k 96) _ _ refl
+    (p (eqb k 100) _ _ refl
+    (p (eqb k 101) _ _ refl refl)))))))))))))))))))
+
+root-of-kind : (F : List ℕ) (l : Layout) (p : Part) (kids : Forest Meaning) → (kindAt F l p ≡ 3 → ⊥) → Unhoisted F kids (nodeOf F l p .root)
+unfolding kindAt nodeOf resolved
+root-of-kind F l p kids h = by (eqb (p .n) 0) refl
+  where
+    by : (b : Bool) → eqb (p .n) 0 ≡ b → Unhoisted F kids (nodeOf F l p .root)
+    by true e = rw e
+    by false e = rw e (other-kind F kids (wordsOf (lastTree (rowsOf F l) p .row)) (rw e at h))
+
+pub of-other-kind : (F : List ℕ) (l : Layout) (p : Part) → Within F l p → (kindAt F l p ≡ 3 → ⊥) → false ≡ hoisted (kidAt F p 0 .rec) (listAt F p 0)
+of-other-kind F l p w h =
+    let i = is-node F l p w refl in
+    sym (rw (kid-zero F l p i, list-zero F l p i) (root-of-kind F l p (meanings (trees F (nodeOf F l p .children))) h))
 
 -- a function without a name leaves its value
 

@@ -52,6 +52,7 @@ use script_records::layout::string;
 use script_records::part::Part;
 use tree::Counts;
 use tree::Element;
+use tree::kind_at;
 use tree::node_at;
 
 // An assignment whose value is discarded, or wanted.
@@ -267,7 +268,7 @@ fn is_expr(root: Record) -> bool
 }
 
 // A named function expression that is a whole statement.
-pub fn is_hoisted(file: &[u8], l: Layout, p: Part) -> bool
+fn is_named(file: &[u8], l: Layout, p: Part) -> bool
     requires { ⌜ Within (now file) l p ⌝ }
     ensures { λ r. ⌜ r ≡ hoisted (kidAt (now (file .entry)) p 0 .rec) (listAt (now (file .entry)) p 0) ⌝ }
 {
@@ -286,6 +287,17 @@ pub fn is_hoisted(file: &[u8], l: Layout, p: Part) -> bool
         Shape::Field => false,
         Shape::Other => false,
     }
+}
+
+// Most statements are none, which their kind tells.
+pub fn is_hoisted(file: &[u8], l: Layout, p: Part) -> bool
+    requires { ⌜ Within (now file) l p ⌝ }
+    ensures { λ r. ⌜ r ≡ hoisted (kidAt (now (file .entry)) p 0 .rec) (listAt (now (file .entry)) p 0) ⌝ }
+{
+    if kind_at(file, l, p) != 3 {
+        return false;
+    }
+    is_named(file, l, p)
 }
 
 pub fn is_labelled(e: Element) -> u32

@@ -20,10 +20,10 @@ use Rattle.hir.specs.Tree.{Forest}
 use Rattle.pcode.specs.Pcode.{Item}
 use Rattle.lowering.specs.Builder.{Limits, State, Result, ok, refused}
 use Rattle.lowering.specs.Statement.{lists, refusal, finish, with-pool, start, pool, generate-actions, script-to-actions}
-use Rattle.lowering.proofs.Theorems.Facts.{All, label-of, branches, counted, count, Closed, is-action, pushed-by, sum, actions-in, values-in, At, here, there, Goes, Item-ok, tag-of, In-range, Cause, sets-direct, sets-direct-by, increments-direct, decrements-direct, enumerates-direct, deletes-property, calls-property, constructs-property, second-default, negates-least, Somewhere, earlier, below, Full}
+use Rattle.lowering.proofs.Theorems.Facts.{All, label-of, branches, counted, count, Closed, Labels-below, is-action, pushed-by, sum, actions-in, values-in, At, here, there, Goes, Item-ok, tag-of, In-range, Cause, sets-direct, sets-direct-by, increments-direct, decrements-direct, enumerates-direct, deletes-property, calls-property, constructs-property, second-default, negates-least, Somewhere, earlier, below, Full}
 use Rattle.lowering.proofs.Theorems.Facts as facts
 use Rattle.lowering.proofs.Theorems.Invariant.{After, Post, Covered, top, after, Runs, Ranged, begin, begin-top, plain, function, next}
-use Rattle.lowering.proofs.Theorems.Steps.{either, closed-one}
+use Rattle.lowering.proofs.Theorems.Steps.{either, closed-one, below-one}
 use Rattle.lowering.proofs.Theorems.Script.{context, none-waiting, lowered}
 
 -- lists in order
@@ -48,6 +48,13 @@ closed-reverse l c x q = omega (arith, count-reverse x l [], c x (either (λ r. 
 closed-all : (ls : List (List Item)) → All Closed ls → All Closed (map reverse ls)
 closed-all [] h = tt
 closed-all (l ∷ ls) h = (closed-reverse l (h .0), closed-all ls (h .1))
+
+below-reverse : (n : ℕ) (l : List Item) → Labels-below n l → Labels-below n (reverse l)
+below-reverse n l c x q = c x (either (λ r. r) (λ r. elim r [ ]) (branches-reverse x l [] q))
+
+below-all : (n : ℕ) (ls : List (List Item)) → All (Labels-below n) ls → All (Labels-below n) (map reverse ls)
+below-all n [] h = tt
+below-all n (l ∷ ls) h = (below-reverse n l (h .0), below-all n ls (h .1))
 
 sum-reverse : (f : Item → ℕ) (a b : List Item) → sum f (reverseAux a b) ≡ sum f a + sum f b
 sum-reverse f [] b = omega arith
@@ -137,6 +144,15 @@ module _ (lim : Limits) (room : 1 ≤ lim .actions) (f : Forest Rec) where
         let x = ended any-text in (
           subst Closed (top-list any-text) (subst Closed (first any-text .1) (closed-reverse (x .state .builder .items) (closed-one (x .covered)))),
           subst (All Closed) (x .functions-are) (closed-all (x .state .lists) (x .covered .finished .closed)),
+        )
+
+    -- and that label's number is below the limit on labels
+    pub labels-below : All (Labels-below (lim .labels)) (t ∷ fs)
+    labels-below =
+        let x = ended any-text in
+        let n = lim .labels in (
+          subst (Labels-below n) (top-list any-text) (subst (Labels-below n) (first any-text .1) (below-reverse n (x .state .builder .items) (below-one (x .covered)))),
+          subst (All (Labels-below n)) (x .functions-are) (below-all n (x .state .lists) (x .covered .finished .below)),
         )
 
     -- the function lists are numbered as they finish, and there are no others

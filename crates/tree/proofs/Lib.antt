@@ -3,3 +3,4 @@ pub mod Meanings
 pub mod Counting
 pub mod Accepted
 pub mod Kids
+pub mod ByKind

@@ -42,6 +42,10 @@ noNode p = record { root = kind.Absent; number = 0; children = p; before = p }
 unfoldable pub nodeOf : List ℕ → Layout → Part → Node
 nodeOf F l p = cond (eqb (p .n) 0) (noNode p) (madeNode (lastTree (rowsOf F l) p))
 
+-- the kind of the last tree, and that of an absent child where there is none
+unfoldable pub kindAt : List ℕ → Layout → Part → ℕ
+kindAt F l p = cond (eqb (p .n) 0) 96 (lastTree (rowsOf F l) p .row .kind)
+
 abbrev pub elementOf : Record → Element
 elementOf kind.Case = Case
 elementOf kind.Default = Default

@@ -1,7 +1,7 @@
 // The tree of a script file, node by node. A node's children, and those before a sibling, are parts of the records.
 ghost use mathlib.Core.Path.{_≡_};
 ghost use Rattle.tree.specs.Count.{Few, withTree};
-ghost use Rattle.tree.specs.Trees.{nodeOf, elementOf, trees, countsOf};
+ghost use Rattle.tree.specs.Trees.{nodeOf, kindAt, elementOf, trees, countsOf};
 ghost use Rattle.tree.specs.Within.{Within, IsKid, IsList};
 use hir::Record;
 use script_records::decode::record_of;
@@ -41,6 +41,29 @@ pub fn node_at(file: &[u8], l: Layout, p: Part) -> Node
     }
 }
 
+// The trees before the last.
+pub fn rest_of(file: &[u8], l: Layout, p: Part) -> Part
+    ensures { λ r. ⌜ r ≡ nodeOf (now (file .entry)) l p .before ⌝ }
+{
+    if p.n == 0 {
+        return p;
+    }
+    let t = last_tree(file, l, p);
+    t.before
+}
+
+// The kind of the last tree's record, and that of an absent child where there is none.
+pub fn kind_at(file: &[u8], l: Layout, p: Part) -> u32
+    ensures { λ r. ⌜ r ≡ kindAt (now (file .entry)) l p ⌝ }
+{
+    if p.n == 0 {
+        return 96;
+    }
+    let t = last_tree(file, l, p);
+    let row = t.row;
+    row.kind
+}
+
 // What stands in a switch's list.
 pub enum Element {
     Case,
@@ -65,6 +88,18 @@ pub fn element_of(root: Record) -> Element
         } => Element::Statement,
         Record::Other => Element::Statement,
     }
+}
+
+// Most trees are neither, which their kind tells.
+pub fn element_at(file: &[u8], l: Layout, p: Part) -> Element
+    ensures { λ r. ⌜ r ≡ elementOf (nodeOf (now (file .entry)) l p .root) ⌝ }
+{
+    if kind_at(file, l, p) < 100 {
+        return Element::Statement;
+    }
+    let t = node_at(file, l, p);
+    let root = t.root;
+    element_of(root)
 }
 
 // Of the trees in a row: how many there are, how many of them are Case or Default, how many Case, and how many of the labelled ones stand from the

@@ -54,6 +54,10 @@ Closed l = (x : ℕ) → List·Memᴰ x (branches l) → count x l ≡ 1
 
 -- actions and values of a list, and of lists
 
+-- every Jump and If names a label below this number
+abbrev pub Labels-below : ℕ → List Item → Type 0
+Labels-below n l = (x : ℕ) → List·Memᴰ x (branches l) → x < n
+
 abbrev pub is-action : Item → ℕ
 is-action (Item.action a) = 1
 is-action (Item.mark l) = 0

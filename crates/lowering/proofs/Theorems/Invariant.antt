@@ -11,7 +11,7 @@ use Rattle.hir.specs.Hir.{Str}
 use Rattle.pcode.specs.Pcode.{Item}
 use Rattle.lowering.specs.Builder.{Limits, M, State, Result, ok, refused}
 use Rattle.lowering.specs.Statement.{pool}
-use Rattle.lowering.proofs.Theorems.Facts.{All, branches, counted, count, Closed, is-action, pushed-by, sum, actions-in, values-in, function-list, At, Item-ok, tag-of, Full}
+use Rattle.lowering.proofs.Theorems.Facts.{All, branches, counted, count, Closed, Labels-below, is-action, pushed-by, sum, actions-in, values-in, function-list, At, Item-ok, tag-of, Full}
 
 abbrev pub Each : List ℕ → (ℕ → Type 0) → Type 0
 Each F Q = (l : ℕ) → List·Memᴰ l F → Q l
@@ -71,6 +71,7 @@ pub record Listed (K : Context) (O : List ℕ) (o : Origin) (items : List Item) 
 -- of the finished lists
 pub record Finished (K : Context) (lists : List (List Item)) (pool : ℕ) : Type 0 where
   pub closed : All Closed lists
+  pub below : All (Labels-below (K .limits .labels)) lists
   pub fit : K .ranges → All (All (Item-ok (K .text) pool)) lists
 
 pub record Labels (K : Context) (labels : List ℕ) : Type 0 where

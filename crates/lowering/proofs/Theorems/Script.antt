@@ -156,7 +156,7 @@ module _ (lim : Limits) (f : Forest Rec) (T : Str → Type 0) (room : 1 ≤ lim 
   started = record {
     limited = refl;
     listed = record { numbered = begin-top; ranged = λ r. Ranged.begin-top; tabled = λ x. lit≤ tt; each = λ x q. elim q [ ] };
-    finished = record { closed = tt; fit = λ r. tt };
+    finished = record { closed = tt; below = tt; fit = λ r. tt };
     labels = record { bits = λ x. lit≤ tt; few = omega arith };
     pooled = record { strings = λ r. tt; fewer = lit≤ tt; total = refl; small = lit≤ tt };
     counted = record { actions = refl; values = refl; few-actions = room; few-values = omega arith };

@@ -17,7 +17,7 @@ use Rattle.special_properties.specs.SpecialProperties.{sameBytes}
 use Rattle.lowering.specs.Strings.{find}
 use Rattle.lowering.specs.Builder.{Limits, M, Step, State, Result, ok, refused, bind, allow, _>>=_, _>>_, pure, refuse, with-items, with-labels, with-constants, create-label, stack-size, assume-stack-delta, action-with-stack-delta, mark-or, mark-label, mark-default, push, push-joined, join, ends-in-push, add, add-new, add-found, joins, potential-length, in-new-list, defined, close, define-function}
 use Rattle.lowering.specs.Statement.{pool}
-use Rattle.lowering.proofs.Theorems.Facts.{All, label-of, branches, counted, count, Closed, is-action, pushed-by, sum, function-list, At, here, there, Value-ok, Header-ok, Plain-ok, Item-ok, Full}
+use Rattle.lowering.proofs.Theorems.Facts.{All, label-of, branches, counted, count, Closed, Labels-below, is-action, pushed-by, sum, function-list, At, here, there, Value-ok, Header-ok, Plain-ok, Item-ok, Full}
 use Rattle.lowering.proofs.Theorems.Invariant.{Each, Origin, after, Runs, begin, begin-top, plain, function, Ranged, next, Waiting, Marked, Free, Context, Pooled, Covered, Grows, After, Post, Good, Value-is, Yields}
 
 -- small facts
@@ -640,6 +640,7 @@ module _ (K : Context) (O : List ℕ) (str : Str) (h : K .ranges → K .text str
         };
         finished = record {
           closed = c .finished .closed;
+          below = c .finished .below;
           fit = λ r. all-map (All (Item-ok (K .text) (length (s .constants))))
               (All (Item-ok (K .text) (length (s .constants ++ (str ∷ [])))))
               (items-more (K .text) longer-pool) (s .lists) (c .finished .fit r);
@@ -703,6 +704,19 @@ closed-one {s = s} c x q = one (c .listed .each x q)
     one (inl p) = omega (arith, c .listed .tabled x, c .labels .bits x)
     one (inr p) = elim p [ ]
 
+-- a label that is marked has been made
+made-below : (l : List ℕ) (x : ℕ) → 0 < getD l x 0 → x < length l
+made-below [] x h = absurd (omega arith)
+made-below (y ∷ l) zero h = omega arith
+made-below (y ∷ l) (suc x) h = omega (arith, made-below l x h)
+
+pub below-one : {K : Context} {o : Origin} {w : Waiting} {s : State} → Covered K [] o w s → Labels-below (K .limits .labels) (s .builder .items)
+below-one {K} {s = s} c x q = one (c .listed .each x q)
+  where
+    one : Marked x s ⊎ List·Memᴰ x [] → x < K .limits .labels
+    one (inl p) = omega (arith, c .labels .few, made-below (s .labels) x (omega (arith, c .listed .tabled x)))
+    one (inr p) = elim p [ ]
+
 ranged-all : {T : Str → Type 0} {k n : ℕ} {is : List Item} → Ranged T k (after n) is → All (Item-ok T k) is
 ranged-all begin = tt
 ranged-all (next h r) = (h, ranged-all r)
@@ -747,6 +761,7 @@ module _ {K : Context} {O : List ℕ} (h : Header) (hk : K .ranges → Header-ok
           };
           finished = record {
             closed = all-append Closed (t .lists) l (a .covered .finished .closed) (closed-one (a .covered));
+            below = all-append (Labels-below (K .limits .labels)) (t .lists) l (a .covered .finished .below) (below-one (a .covered));
             fit = λ z. all-append
                 (All (Item-ok (K .text) (length (t .constants)))) (t .lists) l (a .covered .finished .fit z)
                 (ranged-all (a .covered .listed .ranged z));

@@ -26,7 +26,7 @@ use Rattle.builder.proofs.Body.{begun-fine, ready, function-done}
 use Rattle.access.proofs.Texts.{text-is}
 use Rattle.rows.specs.Rows.{loopOf}
 use Rattle.codegen.proofs.Laws.{rec-is, element-at, expr-at, case-at, field-at, no-expr, statement-at, no-statement, access-at, literal-of, none-at, has-no-tests, labels-counted, cases-counted, labels-less, default-less, switching, no-labels, some-labels, function-at, function-size, literal-named, field-live, number-less}
-use Rattle.codegen.proofs.Lists.{PushInv, push-holds, push-inside, push-again, push-less, PopInv, pop-holds, pop-top, pop-pos, pop-few, pop-again, pop-done, element-few, ArgsInv, args-holds, args-again, args-less, args-done}
+use Rattle.codegen.proofs.Lists.{PushInv, push-holds, push-inside, push-rest, rest-less, PopInv, pop-holds, pop-top, pop-pos, pop-few, pop-again, pop-done, element-few, ArgsInv, args-holds, args-again, args-less, args-done}
 use Rattle.codegen.proofs.Arms.{statements-arm, field-arm, test-arm, block-arm, local-arm, local-none-arm, no-values-arm, values-arm, switch-arm, cases-arm, tests-arm, while-arm, for-in-arm, for-loop-arm, ends-arm, if-arm, both-arm, one-arm, void-arm, trivial-arm, trivial-not-arm, trivial-assign-arm, assign-arm, and-arm, or-arm, bit-not-arm, not-arm, minus-arm, adjust-arm, old-arm, delete-arm, ternary-arm, array-arm, object-arm, copy-arm, goto-label-arm, goto-frame-arm, goto-arm, drag-arm, drag-within-arm, get-property-arm, set-property-arm, call-arm, new-arm, direct-arm, object-access-arm}
 use mir.ValLaws.{toZ-ofZ}
 use mir.Syntax.{w32}
@@ -176,10 +176,12 @@ use Rattle.rows.proofs.loop_to.Reads as loop-to-reads
 use Rattle.rows.proofs.no_loop.Reads as no-loop-reads
 use Rattle.rows.proofs.with_exit.Reads as with-exit-reads
 use Rattle.tree.proofs.counts_of.Reads as counts-of-reads
+use Rattle.tree.proofs.element_at.Reads as element-at-reads
 use Rattle.tree.proofs.element_of.Reads as element-of-reads
 use Rattle.tree.proofs.kid_at.Reads as kid-at-reads
 use Rattle.tree.proofs.list_at.Reads as list-at-reads
 use Rattle.tree.proofs.node_at.Reads as node-at-reads
+use Rattle.tree.proofs.rest_of.Reads as rest-of-reads
 use Rattle.codegen.proofs.statement.+adjust+args+arms+cases+copy+drag+each+ends+for_expr+for_in+gen_binary_op+gen_call+gen_expr+gen_for_loop+gen_function+gen_if+gen_statement+gen_statements+gen_switch+gen_ternary+gen_unary_op+gen_while_loop+goto+local+object+old+one+tests+values+void.{
   statement,
 }
@@ -779,7 +781,7 @@ abbrev each-μ-loop2 : each-lts.MeasureT-loop2
 each-μ-loop2 file l list₀ scratch₀ what lp first default last lo top₀ cur₀ done₀ seen₀ cases₀ list scratch top cur done seen cases = last - done
 
 abbrev each-calls : ℕ → each-lts.Claims
-each-calls t = (node-at-reads.Asked, node-at-reads.Learnt, one-below t, one.Post, element-of-reads.Asked, element-of-reads.Learnt, is-labelled-reads.Asked, is-labelled-reads.Learnt, is-case-reads.Asked, is-case-reads.Learnt)
+each-calls t = (rest-of-reads.Asked, rest-of-reads.Learnt, one-below t, one.Post, element-at-reads.Asked, element-at-reads.Learnt, is-labelled-reads.Asked, is-labelled-reads.Learnt, is-case-reads.Asked, is-case-reads.Learnt)
 
 each-sub-lo : (t : ℕ) → each-lts.Need-sub-lo (each-calls t) (each-at t) each.Post each-Inv-loop each-μ-loop each-Inv-loop2 each-μ-loop2
 each-sub-lo t c = omega (arith, (c .before .before .before .before .pre .1 .0) .within .inside)
@@ -799,14 +801,14 @@ each-slice-write-scratch t c = push-inside (c .before .before .loop .inv) (c .if
 each-add-top : (t : ℕ) → each-lts.Need-add-top (each-calls t) (each-at t) each.Post each-Inv-loop each-μ-loop each-Inv-loop2 each-μ-loop2
 each-add-top t c = omega (arith, c .before .before .loop .inv .less, (c .before .before .before .before .before .before .before .before .before .pre .1 .0) .within .inside, (c .before .before .before .before .before .before .before .before .before .pre .1 .0) .within .known, (c .before .before .before .before .before .before .before .before .before .pre .1 .0) .within .sound .few)
 
-each-node-at-requires : (t : ℕ) → each-lts.Need-node-at-requires (each-calls t) (each-at t) each.Post each-Inv-loop each-μ-loop each-Inv-loop2 each-μ-loop2
-each-node-at-requires t c κs = tt
+each-rest-of-requires : (t : ℕ) → each-lts.Need-rest-of-requires (each-calls t) (each-at t) each.Post each-Inv-loop each-μ-loop each-Inv-loop2 each-μ-loop2
+each-rest-of-requires t c κs = tt
 
 each-loop-less : (t : ℕ) → each-lts.Need-loop-less (each-calls t) (each-at t) each.Post each-Inv-loop each-μ-loop each-Inv-loop2 each-μ-loop2
-each-loop-less t c = push-less (c .before .before .before .before .loop .inv) (c .before .before .if2 .taken) (c .before .node-at .ensures)
+each-loop-less t c = rest-less (c .before .before .before .loop .inv) (c .before .if2 .taken) (c .rest-of .ensures)
 
 each-loop-again : (t : ℕ) → each-lts.Need-loop-again (each-calls t) (each-at t) each.Post each-Inv-loop each-μ-loop each-Inv-loop2 each-μ-loop2
-each-loop-again t c = push-again (c .before .before .before .before .loop .inv) (c .before .before .if2 .taken) (c .before .node-at .ensures)
+each-loop-again t c = push-rest (c .before .before .before .loop .inv) (c .before .if2 .taken) (c .rest-of .ensures)
 
 each-loop2-holds : (t : ℕ) → each-lts.Need-loop2-holds (each-calls t) (each-at t) each.Post each-Inv-loop each-μ-loop each-Inv-loop2 each-μ-loop2
 each-loop2-holds t c = pop-holds (c .before .before .before .before .before .before .before .before .before .args .what) (loopOf (c .before .before .before .before .before .before .before .before .before .args .lp)) (c .before .before .before .before .before .before .before .before .before .args .first) (c .before .before .before .before .before .before .before .before .before .args .default) (c .before .before .loop .inv) _ _ ((c .before .before .before .before .before .before .before .before .before .pre .1 .0) .fine) (c .if2 .left)
@@ -838,29 +840,26 @@ each-part-one-end t c = search needs
 each-one-requires : (t : ℕ) → each-lts.Need-one-requires (each-calls t) (each-at t) each.Post each-Inv-loop each-μ-loop each-Inv-loop2 each-μ-loop2
 each-one-requires t c κs = let p = pop-top (c .before .before .before .before .before .before .before .before .before .before .before .before .before .before .args .what) (loopOf (c .before .before .before .before .before .before .before .before .before .before .before .before .before .before .args .lp)) (c .before .before .before .before .before .before .before .before .before .before .before .before .before .before .args .first) (c .before .before .before .before .before .before .before .before .before .before .before .before .before .before .args .default) (c .before .before .before .before .loop2 .inv) (c .before .before .before .loop2-test .taken) in (omega (arith, p .room, c .before .before .before .before .loop2 .inv .low, c .before .before .before .before .before .before .before .before .before .before .before .before .before .before .pre .0, (c .before .before .before .before .before .before .before .before .before .before .before .before .before .before .pre .1 .0) .within .inside), (record { within = p .within; fits = simp (length-take, length-drop) (omega (arith, p .room, p .up, c .before .before .before .before .loop2 .inv .low, c .before .before .before .before .loop2 .inv .room, c .before .before .before .before .loop2 .inv .scratch, c .before .before .before .before .loop2 .inv .wide)); fine = c .before .before .before .before .loop2 .inv .fine }, omega (arith, pop-few (c .before .before .before .before .before .before .before .before .before .before .before .before .before .before .args .what) (loopOf (c .before .before .before .before .before .before .before .before .before .before .before .before .before .before .args .lp)) (c .before .before .before .before .before .before .before .before .before .before .before .before .before .before .args .first) (c .before .before .before .before .before .before .before .before .before .before .before .before .before .before .args .default) (c .before .before .before .before .loop2 .inv) .0, p .up, p .room, c .before .before .before .before .before .before .before .before .before .before .before .before .before .before .pre .1 .1, (c .before .before .before .before .before .before .before .before .before .before .before .before .before .before .pre .1 .0) .within .inside)))
 
-each-node-at-requires-2 : (t : ℕ) → each-lts.Need-node-at-requires-2 (each-calls t) (each-at t) each.Post each-Inv-loop each-μ-loop each-Inv-loop2 each-μ-loop2
-each-node-at-requires-2 t c κs = tt
-
-each-element-of-requires : (t : ℕ) → each-lts.Need-element-of-requires (each-calls t) (each-at t) each.Post each-Inv-loop each-μ-loop each-Inv-loop2 each-μ-loop2
-each-element-of-requires t c κs = tt
+each-element-at-requires : (t : ℕ) → each-lts.Need-element-at-requires (each-calls t) (each-at t) each.Post each-Inv-loop each-μ-loop each-Inv-loop2 each-μ-loop2
+each-element-at-requires t c κs = tt
 
 each-is-labelled-requires : (t : ℕ) → each-lts.Need-is-labelled-requires (each-calls t) (each-at t) each.Post each-Inv-loop each-μ-loop each-Inv-loop2 each-μ-loop2
 each-is-labelled-requires t c κs = tt
 
 each-add-seen : (t : ℕ) → each-lts.Need-add-seen (each-calls t) (each-at t) each.Post each-Inv-loop each-μ-loop each-Inv-loop2 each-μ-loop2
-each-add-seen t c = let p = pop-top (c .before .before .before .before .before .before .before .before .before .before .before .before .before .before .before .before .before .before .before .before .before .before .args .what) (loopOf (c .before .before .before .before .before .before .before .before .before .before .before .before .before .before .before .before .before .before .before .before .before .before .args .lp)) (c .before .before .before .before .before .before .before .before .before .before .before .before .before .before .before .before .before .before .before .before .before .before .args .first) (c .before .before .before .before .before .before .before .before .before .before .before .before .before .before .before .before .before .before .before .before .before .before .args .default) (c .before .before .before .before .before .before .before .before .before .before .before .before .loop2 .inv) (c .before .before .before .before .before .before .before .before .before .before .before .loop2-test .taken) in omega (arith, pop-few (c .before .before .before .before .before .before .before .before .before .before .before .before .before .before .before .before .before .before .before .before .before .before .args .what) (loopOf (c .before .before .before .before .before .before .before .before .before .before .before .before .before .before .before .before .before .before .before .before .before .before .args .lp)) (c .before .before .before .before .before .before .before .before .before .before .before .before .before .before .before .before .before .before .before .before .before .before .args .first) (c .before .before .before .before .before .before .before .before .before .before .before .before .before .before .before .before .before .before .before .before .before .before .args .default) (c .before .before .before .before .before .before .before .before .before .before .before .before .loop2 .inv) .0, c .is-labelled .ensures, element-few (c .before .element-of .result) .0, p .up, p .room, (c .before .before .before .before .before .before .before .before .before .before .before .before .before .before .before .before .before .before .before .before .before .before .pre .1 .0) .within .inside, (c .before .before .before .before .before .before .before .before .before .before .before .before .before .before .before .before .before .before .before .before .before .before .pre .1 .0) .within .known, (c .before .before .before .before .before .before .before .before .before .before .before .before .before .before .before .before .before .before .before .before .before .before .pre .1 .0) .within .sound .few)
+each-add-seen t c = let p = pop-top (c .before .before .before .before .before .before .before .before .before .before .before .before .before .before .before .before .before .before .before .before .before .args .what) (loopOf (c .before .before .before .before .before .before .before .before .before .before .before .before .before .before .before .before .before .before .before .before .before .args .lp)) (c .before .before .before .before .before .before .before .before .before .before .before .before .before .before .before .before .before .before .before .before .before .args .first) (c .before .before .before .before .before .before .before .before .before .before .before .before .before .before .before .before .before .before .before .before .before .args .default) (c .before .before .before .before .before .before .before .before .before .before .before .loop2 .inv) (c .before .before .before .before .before .before .before .before .before .before .loop2-test .taken) in omega (arith, pop-few (c .before .before .before .before .before .before .before .before .before .before .before .before .before .before .before .before .before .before .before .before .before .args .what) (loopOf (c .before .before .before .before .before .before .before .before .before .before .before .before .before .before .before .before .before .before .before .before .before .args .lp)) (c .before .before .before .before .before .before .before .before .before .before .before .before .before .before .before .before .before .before .before .before .before .args .first) (c .before .before .before .before .before .before .before .before .before .before .before .before .before .before .before .before .before .before .before .before .before .args .default) (c .before .before .before .before .before .before .before .before .before .before .before .loop2 .inv) .0, c .is-labelled .ensures, element-few (c .before .element-at .result) .0, p .up, p .room, (c .before .before .before .before .before .before .before .before .before .before .before .before .before .before .before .before .before .before .before .before .before .pre .1 .0) .within .inside, (c .before .before .before .before .before .before .before .before .before .before .before .before .before .before .before .before .before .before .before .before .before .pre .1 .0) .within .known, (c .before .before .before .before .before .before .before .before .before .before .before .before .before .before .before .before .before .before .before .before .before .pre .1 .0) .within .sound .few)
 
 each-is-case-requires : (t : ℕ) → each-lts.Need-is-case-requires (each-calls t) (each-at t) each.Post each-Inv-loop each-μ-loop each-Inv-loop2 each-μ-loop2
 each-is-case-requires t c κs = tt
 
 each-add-cases : (t : ℕ) → each-lts.Need-add-cases (each-calls t) (each-at t) each.Post each-Inv-loop each-μ-loop each-Inv-loop2 each-μ-loop2
-each-add-cases t c = let p = pop-top (c .before .before .before .before .before .before .before .before .before .before .before .before .before .before .before .before .before .before .before .before .before .before .before .args .what) (loopOf (c .before .before .before .before .before .before .before .before .before .before .before .before .before .before .before .before .before .before .before .before .before .before .before .args .lp)) (c .before .before .before .before .before .before .before .before .before .before .before .before .before .before .before .before .before .before .before .before .before .before .before .args .first) (c .before .before .before .before .before .before .before .before .before .before .before .before .before .before .before .before .before .before .before .before .before .before .before .args .default) (c .before .before .before .before .before .before .before .before .before .before .before .before .before .loop2 .inv) (c .before .before .before .before .before .before .before .before .before .before .before .before .loop2-test .taken) in omega (arith, pop-few (c .before .before .before .before .before .before .before .before .before .before .before .before .before .before .before .before .before .before .before .before .before .before .before .args .what) (loopOf (c .before .before .before .before .before .before .before .before .before .before .before .before .before .before .before .before .before .before .before .before .before .before .before .args .lp)) (c .before .before .before .before .before .before .before .before .before .before .before .before .before .before .before .before .before .before .before .before .before .before .before .args .first) (c .before .before .before .before .before .before .before .before .before .before .before .before .before .before .before .before .before .before .before .before .before .before .before .args .default) (c .before .before .before .before .before .before .before .before .before .before .before .before .before .loop2 .inv) .1, c .is-case .ensures, element-few (c .before .before .element-of .result) .1, p .up, p .room, (c .before .before .before .before .before .before .before .before .before .before .before .before .before .before .before .before .before .before .before .before .before .before .before .pre .1 .0) .within .inside, (c .before .before .before .before .before .before .before .before .before .before .before .before .before .before .before .before .before .before .before .before .before .before .before .pre .1 .0) .within .known, (c .before .before .before .before .before .before .before .before .before .before .before .before .before .before .before .before .before .before .before .before .before .before .before .pre .1 .0) .within .sound .few)
+each-add-cases t c = let p = pop-top (c .before .before .before .before .before .before .before .before .before .before .before .before .before .before .before .before .before .before .before .before .before .before .args .what) (loopOf (c .before .before .before .before .before .before .before .before .before .before .before .before .before .before .before .before .before .before .before .before .before .before .args .lp)) (c .before .before .before .before .before .before .before .before .before .before .before .before .before .before .before .before .before .before .before .before .before .before .args .first) (c .before .before .before .before .before .before .before .before .before .before .before .before .before .before .before .before .before .before .before .before .before .before .args .default) (c .before .before .before .before .before .before .before .before .before .before .before .before .loop2 .inv) (c .before .before .before .before .before .before .before .before .before .before .before .loop2-test .taken) in omega (arith, pop-few (c .before .before .before .before .before .before .before .before .before .before .before .before .before .before .before .before .before .before .before .before .before .before .args .what) (loopOf (c .before .before .before .before .before .before .before .before .before .before .before .before .before .before .before .before .before .before .before .before .before .before .args .lp)) (c .before .before .before .before .before .before .before .before .before .before .before .before .before .before .before .before .before .before .before .before .before .before .args .first) (c .before .before .before .before .before .before .before .before .before .before .before .before .before .before .before .before .before .before .before .before .before .before .args .default) (c .before .before .before .before .before .before .before .before .before .before .before .before .loop2 .inv) .1, c .is-case .ensures, element-few (c .before .before .element-at .result) .1, p .up, p .room, (c .before .before .before .before .before .before .before .before .before .before .before .before .before .before .before .before .before .before .before .before .before .before .pre .1 .0) .within .inside, (c .before .before .before .before .before .before .before .before .before .before .before .before .before .before .before .before .before .before .before .before .before .before .pre .1 .0) .within .known, (c .before .before .before .before .before .before .before .before .before .before .before .before .before .before .before .before .before .before .before .before .before .before .pre .1 .0) .within .sound .few)
 
 each-loop2-less : (t : ℕ) → each-lts.Need-loop2-less (each-calls t) (each-at t) each.Post each-Inv-loop each-μ-loop each-Inv-loop2 each-μ-loop2
-each-loop2-less t c = let p = pop-top (c .before .before .before .before .before .before .before .before .before .before .before .before .before .before .before .before .before .before .before .before .before .before .before .args .what) (loopOf (c .before .before .before .before .before .before .before .before .before .before .before .before .before .before .before .before .before .before .before .before .before .before .before .args .lp)) (c .before .before .before .before .before .before .before .before .before .before .before .before .before .before .before .before .before .before .before .before .before .before .before .args .first) (c .before .before .before .before .before .before .before .before .before .before .before .before .before .before .before .before .before .before .before .before .before .before .before .args .default) (c .before .before .before .before .before .before .before .before .before .before .before .before .before .loop2 .inv) (c .before .before .before .before .before .before .before .before .before .before .before .before .loop2-test .taken) in omega (arith, p .up, p .room)
+each-loop2-less t c = let p = pop-top (c .before .before .before .before .before .before .before .before .before .before .before .before .before .before .before .before .before .before .before .before .before .before .args .what) (loopOf (c .before .before .before .before .before .before .before .before .before .before .before .before .before .before .before .before .before .before .before .before .before .before .args .lp)) (c .before .before .before .before .before .before .before .before .before .before .before .before .before .before .before .before .before .before .before .before .before .before .args .first) (c .before .before .before .before .before .before .before .before .before .before .before .before .before .before .before .before .before .before .before .before .before .before .args .default) (c .before .before .before .before .before .before .before .before .before .before .before .before .loop2 .inv) (c .before .before .before .before .before .before .before .before .before .before .before .loop2-test .taken) in omega (arith, p .up, p .room)
 
 each-loop2-again : (t : ℕ) → each-lts.Need-loop2-again (each-calls t) (each-at t) each.Post each-Inv-loop each-μ-loop each-Inv-loop2 each-μ-loop2
-each-loop2-again t c = pop-again (c .before .before .before .before .before .before .before .before .before .before .before .before .before .before .before .before .before .before .before .before .before .before .before .args .what) (loopOf (c .before .before .before .before .before .before .before .before .before .before .before .before .before .before .before .before .before .before .before .before .before .before .before .args .lp)) (c .before .before .before .before .before .before .before .before .before .before .before .before .before .before .before .before .before .before .before .before .before .before .before .args .first) (c .before .before .before .before .before .before .before .before .before .before .before .before .before .before .before .before .before .before .before .before .before .before .before .args .default) (c .before .before .before .before .before .before .before .before .before .before .before .before .before .loop2 .inv) (c .before .before .before .before .before .before .before .before .one .last .1 .1 .1 .1 .1 .0) (c .before .before .before .before .before .before .before .before .before .before .before .before .loop2-test .taken) (c .before .before .before .before .before .before .before .before .one .ensures) (c .before .before .before .node-at2 .ensures) (c .before .before .element-of .ensures) (ap (λ (k : ℕ). c .before .before .before .before .before .before .before .before .before .before .before .before .before .loop2 .seen + k) (c .before .is-labelled .ensures)) (ap (λ (k : ℕ). c .before .before .before .before .before .before .before .before .before .before .before .before .before .loop2 .cases + k) (c .is-case .ensures)) (c .before .before .before .before .before .before .before .before .one .kept .1 .1 .1 .1 .0) (c .before .before .before .before .before .before .before .before .one .kept .1 .1 .1 .1 .1 .0)
+each-loop2-again t c = pop-again (c .before .before .before .before .before .before .before .before .before .before .before .before .before .before .before .before .before .before .before .before .before .before .args .what) (loopOf (c .before .before .before .before .before .before .before .before .before .before .before .before .before .before .before .before .before .before .before .before .before .before .args .lp)) (c .before .before .before .before .before .before .before .before .before .before .before .before .before .before .before .before .before .before .before .before .before .before .args .first) (c .before .before .before .before .before .before .before .before .before .before .before .before .before .before .before .before .before .before .before .before .before .before .args .default) (c .before .before .before .before .before .before .before .before .before .before .before .before .loop2 .inv) (c .before .before .before .before .before .before .before .one .last .1 .1 .1 .1 .1 .0) (c .before .before .before .before .before .before .before .before .before .before .before .loop2-test .taken) (c .before .before .before .before .before .before .before .one .ensures) refl (c .before .before .element-at .ensures) (ap (λ (k : ℕ). c .before .before .before .before .before .before .before .before .before .before .before .before .loop2 .seen + k) (c .before .is-labelled .ensures)) (ap (λ (k : ℕ). c .before .before .before .before .before .before .before .before .before .before .before .before .loop2 .cases + k) (c .is-case .ensures)) (c .before .before .before .before .before .before .before .one .kept .1 .1 .1 .1 .0) (c .before .before .before .before .before .before .before .one .kept .1 .1 .1 .1 .1 .0)
 
 each-same-length : (t : ℕ) → each-lts.Need-same-length (each-calls t) (each-at t) each.Post each-Inv-loop each-μ-loop each-Inv-loop2 each-μ-loop2
 each-same-length t c = c .before .loop2 .inv .list
@@ -2918,7 +2917,7 @@ pub +adjust+args+arms+cases+copy+drag+each+ends+for-expr+for-in+gen-binary-op+ge
     (each-mul-scratch t)
     (each-slice-write-scratch t)
     (each-add-top t)
-    (each-node-at-requires t)
+    (each-rest-of-requires t)
     (each-loop-less t)
     (each-loop-again t)
     (each-loop2-holds t)
@@ -2931,8 +2930,7 @@ pub +adjust+args+arms+cases+copy+drag+each+ends+for-expr+for-in+gen-binary-op+ge
     (each-part-one-start t)
     (each-part-one-end t)
     (each-one-requires t)
-    (each-node-at-requires-2 t)
-    (each-element-of-requires t)
+    (each-element-at-requires t)
     (each-is-labelled-requires t)
     (each-add-seen t)
     (each-is-case-requires t)

@@ -1,0 +1,65 @@
+//! The C functions of the static library, and the two calls over them.
+
+use crate::{Compiled, LIST_WORDS, Refusal};
+
+/// Refusal number (0 for none) and length.
+#[repr(C)]
+#[derive(Clone, Copy, Default)]
+struct Answer {
+    number: u32,
+    length: u32,
+}
+
+// Each slice is its first element and its length; what is lent may not overlap.
+unsafe extern "C" {
+    fn rascal_compile(
+        file: *const u8,
+        file_length: usize,
+        lists: *mut u32,
+        list_words: usize,
+        output: *mut u8,
+        output_length: usize,
+        answer: *mut Answer,
+    );
+    fn rascal_read(bytes: *const u8, length: usize, lists: *mut u32, list_words: usize, answer: *mut Answer);
+}
+
+fn result(answer: Answer) -> Result<usize, Refusal> {
+    match answer.number {
+        0 => Ok(answer.length as usize),
+        number => Err(Refusal::new(number as u8)),
+    }
+}
+
+/// Compiles a script file into an output of this many bytes at most.
+pub fn compile_within(file: &[u8], room: usize) -> Result<Compiled, Refusal> {
+    let mut lists = vec![0; LIST_WORDS];
+    let mut bytes = vec![0; room];
+    let mut answer = Answer::default();
+    // Each pointer is that of a live slice of the length beside it, and no two of them overlap.
+    unsafe {
+        rascal_compile(file.as_ptr(), file.len(), lists.as_mut_ptr(), lists.len(), bytes.as_mut_ptr(), bytes.len(), &mut answer);
+    }
+    bytes.truncate(result(answer)?);
+    Ok(Compiled { bytes, lists })
+}
+
+/// Compiles a script file, with 65,536 bytes of output first and, where these are too few, with as many as any script needs:
+/// no list is longer than what 1,024 records of 65,538 bytes take.
+pub fn compile(file: &[u8]) -> Result<Compiled, Refusal> {
+    match compile_within(file, 65_536) {
+        Err(Refusal { number: 12, .. }) => compile_within(file, 1_024 * 65_538 + 1),
+        other => other,
+    }
+}
+
+/// The words of the lists that action bytes stand for.
+pub fn read(bytes: &[u8]) -> Result<Vec<u32>, Refusal> {
+    let mut lists = vec![0; LIST_WORDS];
+    let mut answer = Answer::default();
+    // As above.
+    unsafe {
+        rascal_read(bytes.as_ptr(), bytes.len(), lists.as_mut_ptr(), lists.len(), &mut answer);
+    }
+    result(answer).map(|_| lists)
+}

@@ -1,0 +1,9 @@
+pub mod Walk
+pub mod Layout
+pub mod State
+pub mod Places
+pub mod Lists
+pub mod View
+pub mod Pushes
+pub mod Walked
+pub mod Answers

@@ -1,0 +1,12 @@
+pub mod Building
+pub mod Whole
+pub mod BodyWalked
+pub mod KnownEntries
+pub mod Fits
+pub mod PieceBytes
+pub mod HeaderBytes
+pub mod IsFunction
+pub mod Stepping
+pub mod Ready
+pub mod Top
+pub mod Answers

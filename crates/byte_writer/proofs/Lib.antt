@@ -1,0 +1,9 @@
+pub mod Writes
+pub mod Loops
+pub mod Sizes
+pub mod Pool
+pub mod Frames
+pub mod Params
+pub mod ParamLoops
+pub mod HeaderParts
+pub mod Functions

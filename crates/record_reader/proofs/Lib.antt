@@ -1,0 +1,11 @@
+pub mod Bools
+pub mod Positions
+pub mod Tables
+pub mod Data
+pub mod Headers
+pub mod ReadValues
+pub mod Rests
+pub mod Pushes
+pub mod Whole
+pub mod ReadFacts
+pub mod Laws

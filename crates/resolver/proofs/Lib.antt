@@ -1,0 +1,13 @@
+pub mod Texts
+pub mod OpCodes
+pub mod Entries
+pub mod Items
+pub mod Walking
+pub mod Reaches
+pub mod Passing
+pub mod Counting
+pub mod Whole
+pub mod Stand
+pub mod Sizing
+pub mod Answers
+pub mod Written
