@@ -1,4 +1,7 @@
 // Compiles script files that stand in a text, a line `NAME BYTES` for each, and prints NAME, the listing of its lists and its action bytes, or its refusal.
+// It also compiles each file again at the edges of what a call is lent.
+use crate::edges::put_edges;
+use crate::edges::put_sum;
 use listing_text::put_compiled;
 use listing_text::replay::put_line_name;
 use listing_text::text::flush;
@@ -10,6 +13,8 @@ use listing_text::text::put_text;
 use rascal::Compiled;
 use rascal::compile;
 use text_lines::find;
+
+mod edges;
 
 // A line with the first n bytes of the output.
 fn put_output(output: &[u8], n: usize, out: &mut [u8], at: usize) -> usize {
@@ -23,7 +28,23 @@ fn put_output(output: &[u8], n: usize, out: &mut [u8], at: usize) -> usize {
     put(out, m, b'\n')
 }
 
-// The lists and the bytes of a script file, or its refusal.
+// The lists and the bytes of a script file; of more than 20,000 bytes only a sum.
+fn put_success(
+    file: &[u8],
+    list: &[u32],
+    output: &[u8],
+    n: usize,
+    out: &mut [u8],
+    at: usize,
+) -> usize {
+    if 20000 < n {
+        return put_sum(output, n, out, at);
+    }
+    let m = put_compiled(list, file, out, at);
+    put_output(output, n, out, m)
+}
+
+// What a script file compiles to, or its refusal.
 fn put_answer(
     file: &[u8],
     list: &mut [u32],
@@ -34,8 +55,8 @@ fn put_answer(
     let answer = compile(file, list, output);
     match answer {
         Compiled::Bytes(n) => {
-            let m = put_compiled(list, file, out, at);
-            put_output(output, n, out, m)
+            let m = put_success(file, list, output, n, out, at);
+            put_edges(file, list, output, n, out, m)
         }
         Compiled::Refused(number) => put_refusal(out, at, number),
     }
