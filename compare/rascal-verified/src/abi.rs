@@ -2,15 +2,8 @@
 
 use crate::{Compiled, LIST_WORDS, Refusal};
 
-/// Refusal number (0 for none) and length.
-#[repr(C)]
-#[derive(Clone, Copy, Default)]
-struct Answer {
-    number: u32,
-    length: u32,
-}
-
-// Each slice is its first element and its length; what is lent may not overlap.
+// Each slice is its first element and its length; what is lent may not overlap. The word returned is the length, or `u64::MAX` less the refusal's number
+// (crates/rascal/src/exports.rt).
 unsafe extern "C" {
     fn rascal_compile(
         file: *const u8,
@@ -19,15 +12,14 @@ unsafe extern "C" {
         list_words: usize,
         output: *mut u8,
         output_length: usize,
-        answer: *mut Answer,
-    );
-    fn rascal_read(bytes: *const u8, length: usize, lists: *mut u32, list_words: usize, answer: *mut Answer);
+    ) -> u64;
+    fn rascal_read(bytes: *const u8, length: usize, lists: *mut u32, list_words: usize) -> u64;
 }
 
-fn result(answer: Answer) -> Result<usize, Refusal> {
-    match answer.number {
-        0 => Ok(answer.length as usize),
-        number => Err(Refusal::new(number as u8)),
+fn result(word: u64) -> Result<usize, Refusal> {
+    match u64::MAX - word {
+        number @ 0..=255 => Err(Refusal::new(number as u8)),
+        _ => Ok(word as usize),
     }
 }
 
@@ -35,12 +27,11 @@ fn result(answer: Answer) -> Result<usize, Refusal> {
 pub fn compile_within(file: &[u8], room: usize) -> Result<Compiled, Refusal> {
     let mut lists = vec![0; LIST_WORDS];
     let mut bytes = vec![0; room];
-    let mut answer = Answer::default();
     // Each pointer is that of a live slice of the length beside it, and no two of them overlap.
-    unsafe {
-        rascal_compile(file.as_ptr(), file.len(), lists.as_mut_ptr(), lists.len(), bytes.as_mut_ptr(), bytes.len(), &mut answer);
-    }
-    bytes.truncate(result(answer)?);
+    let word = unsafe {
+        rascal_compile(file.as_ptr(), file.len(), lists.as_mut_ptr(), lists.len(), bytes.as_mut_ptr(), bytes.len())
+    };
+    bytes.truncate(result(word)?);
     Ok(Compiled { bytes, lists })
 }
 
@@ -56,10 +47,7 @@ pub fn compile(file: &[u8]) -> Result<Compiled, Refusal> {
 /// The words of the lists that action bytes stand for.
 pub fn read(bytes: &[u8]) -> Result<Vec<u32>, Refusal> {
     let mut lists = vec![0; LIST_WORDS];
-    let mut answer = Answer::default();
     // As above.
-    unsafe {
-        rascal_read(bytes.as_ptr(), bytes.len(), lists.as_mut_ptr(), lists.len(), &mut answer);
-    }
-    result(answer).map(|_| lists)
+    let word = unsafe { rascal_read(bytes.as_ptr(), bytes.len(), lists.as_mut_ptr(), lists.len()) };
+    result(word).map(|_| lists)
 }

@@ -13,6 +13,8 @@ use action_writer::write;
 use as2_codegen::Lowered;
 use as2_codegen::script_to_actions;
 
+pub mod exports;
+
 // How many bytes were written, or the refusal.
 pub enum Compiled {
     Bytes(usize),
