@@ -128,30 +128,9 @@ fn put16(out: &mut Vec<u8>, n: usize) {
     out.extend(u16::try_from(n).unwrap().to_le_bytes());
 }
 
-fn code(act: &Act) -> u8 {
-    match act {
-        Act::Plain(code) => *code,
-        Act::GotoFrame(_) => 0x81,
-        Act::StoreRegister(_) => 0x87,
-        Act::ConstantPool(_) => 0x88,
-        Act::GotoLabel(_) => 0x8C,
-        Act::Function(f) => {
-            if f.registers.is_some() {
-                0x8E
-            } else {
-                0x9B
-            }
-        }
-        Act::Push(_) => 0x96,
-        Act::Jump(_) => 0x99,
-        Act::If(_) => 0x9D,
-        Act::GotoFrame2(..) => 0x9F,
-    }
-}
-
 fn put_act(out: &mut Vec<u8>, sizes: &Sizes, list: &List, n: usize, i: usize, act: &Act) {
-    out.push(code(act));
-    if code(act) < 0x80 {
+    out.push(act.code());
+    if act.code() < 0x80 {
         return;
     }
     put16(out, data_length(act));

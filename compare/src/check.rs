@@ -60,7 +60,7 @@ pub fn check(file: &[u8]) -> Result<Script<'_>, u8> {
 }
 
 /// The strings' bytes and the records, if the areas touch and the ends are right.
-fn areas(file: &[u8]) -> Option<(Vec<&[u8]>, Vec<Record>)> {
+pub fn areas(file: &[u8]) -> Option<(Vec<&[u8]>, Vec<Record>)> {
     let at = file.len().checked_sub(20)?;
     let trailer: Vec<u64> = (0..5).map(|i| word(file, at + 4 * i) as u64).collect();
     let [to_records, to_ends, count, strings, edition] = trailer[..] else { return None };
@@ -92,7 +92,7 @@ fn areas(file: &[u8]) -> Option<(Vec<&[u8]>, Vec<Record>)> {
 }
 
 /// Each record's children in order, if the sizes part the records and the last one holds all.
-fn children(records: &[Record]) -> Option<Vec<Vec<usize>>> {
+pub fn children(records: &[Record]) -> Option<Vec<Vec<usize>>> {
     let mut open: Vec<usize> = Vec::new();
     let mut all = Vec::with_capacity(records.len());
     for (i, r) in records.iter().enumerate() {

@@ -1,18 +1,31 @@
 //! Runs Rascal's own lowering on script files, and says what document 01 says of each file: its lists, its action bytes,
-//! or its refusal. Nothing here uses the verified library.
+//! or its refusal; and compares the verified code with it.
 
 pub mod action_reader;
 pub mod action_writer;
+pub mod answer;
 pub mod check;
+pub mod comparison;
+pub mod damage;
 pub mod from_tree;
+pub mod generated;
 pub mod kinds;
+#[cfg(feature = "verified")]
+pub mod library;
 pub mod list_slice;
 pub mod listing;
 pub mod lists;
 pub mod lower;
 pub mod node;
+pub mod program;
+pub mod properties;
 pub mod random;
 pub mod random_bytes;
+pub mod random_scripts;
+pub mod shrink;
+pub mod shrink_bytes;
+pub mod shrink_script;
+pub mod sides;
 pub mod text;
 pub mod to_tree;
 
@@ -20,8 +33,10 @@ use lists::Lists;
 
 /// Words that a list slice must have at document 01's limits.
 pub const LIST_WORDS: usize = list_words(LIMITS);
-/// The output that the listing program lends.
+/// The output that the programs lend.
 pub const ROOM: usize = 65_536;
+/// An output for scripts whose pool overflows too: their bytes are more than the programs lend.
+pub const WIDE_ROOM: usize = 4 * ROOM;
 
 /// How many actions, push values and labels a script may have.
 pub type Limits = counted::Counts;

@@ -45,6 +45,25 @@ pub enum Act {
     GotoFrame2(u16, bool),
 }
 
+impl Act {
+    /// The code of its record.
+    pub fn code(&self) -> u8 {
+        match self {
+            Act::Plain(code) => *code,
+            Act::GotoFrame(_) => 0x81,
+            Act::StoreRegister(_) => 0x87,
+            Act::ConstantPool(_) => 0x88,
+            Act::GotoLabel(_) => 0x8C,
+            Act::Function(Function { registers: Some(_), .. }) => 0x8E,
+            Act::Push(_) => 0x96,
+            Act::Jump(_) => 0x99,
+            Act::Function(_) => 0x9B,
+            Act::If(_) => 0x9D,
+            Act::GotoFrame2(..) => 0x9F,
+        }
+    }
+}
+
 #[derive(Debug, Clone, PartialEq, Eq, Default)]
 pub struct List {
     pub actions: Vec<Act>,
@@ -65,6 +84,12 @@ impl List {
 pub struct Lists(pub Vec<List>);
 
 impl Lists {
+    /// Whether a string is pushed that is not in the pool: it did not fit.
+    pub fn overflow(&self) -> bool {
+        let pushes_string = |a: &Act| matches!(a, Act::Push(values) if values.iter().any(|v| matches!(v, Value::String(_))));
+        self.0.iter().flat_map(|l| &l.actions).any(pushes_string)
+    }
+
     /// Branches name their places; marks go.
     pub fn by_place(&self) -> Lists {
         let resolve = |list: &List| {

@@ -1,6 +1,6 @@
 //! Trees of records, and the bytes of a script file, whose parts can also be given instead of computed.
 
-use crate::check::Record;
+use crate::check::{self, Record};
 use crate::kinds::*;
 
 #[derive(Debug, Clone, PartialEq, Eq)]
@@ -25,6 +25,41 @@ impl Node {
     pub fn count(&self) -> usize {
         1 + self.children.iter().map(Node::count).sum::<usize>()
     }
+
+    /// Each node, parents before their children.
+    pub fn all(&self) -> Vec<&Node> {
+        let mut all = vec![self];
+        all.extend(self.children.iter().flat_map(Node::all));
+        all
+    }
+
+    /// The node of this number in that order.
+    pub fn at_mut(&mut self, number: usize) -> &mut Node {
+        let Some(mut left) = number.checked_sub(1) else { return self };
+        for child in &mut self.children {
+            let count = child.count();
+            if left < count {
+                return child.at_mut(left);
+            }
+            left -= count;
+        }
+        panic!("a tree of fewer nodes")
+    }
+
+    pub fn each_mut(&mut self, change: &mut dyn FnMut(&mut Node)) {
+        change(self);
+        self.children.iter_mut().for_each(|child| child.each_mut(change));
+    }
+}
+
+/// The tree of records, if their sizes are those of one tree.
+pub fn tree(records: &[Record]) -> Option<Node> {
+    let mut nodes: Vec<Option<Node>> = vec![];
+    for (r, children) in records.iter().zip(check::children(records)?) {
+        let children = children.into_iter().map(|c| nodes[c].take().unwrap()).collect();
+        nodes.push(Some(Node { kind: r.kind, a: r.a, b: r.b, c: r.c, children }));
+    }
+    nodes.pop()?
 }
 
 pub fn list(children: Vec<Node>) -> Node {
@@ -153,12 +188,17 @@ fn put_records(node: &Node, out: &mut Vec<Record>) {
 
 impl Parts {
     pub fn new<S: AsRef<[u8]>>(strings: &[S], root: &Node) -> Parts {
-        let mut parts = Parts { string_bytes: vec![], ends: vec![], records: vec![], trailer: [0; 5] };
+        let mut records = vec![];
+        put_records(root, &mut records);
+        Parts::of_records(strings, records)
+    }
+
+    pub fn of_records<S: AsRef<[u8]>>(strings: &[S], records: Vec<Record>) -> Parts {
+        let mut parts = Parts { string_bytes: vec![], ends: vec![], records, trailer: [0; 5] };
         for s in strings {
             parts.string_bytes.extend(s.as_ref());
             parts.ends.push(parts.string_bytes.len() as u32);
         }
-        put_records(root, &mut parts.records);
         parts.set_trailer();
         parts
     }

@@ -1,10 +1,11 @@
 //! Random action bytes: lists that keep the rules, and copies of their bytes with a field or a byte changed.
 
 use crate::action_writer::write;
+use crate::generated;
 use crate::lists::*;
 use crate::random::Random;
 
-struct Maker {
+pub struct Maker {
     r: Random,
     lists: Lists,
     pool: usize,
@@ -12,6 +13,10 @@ struct Maker {
 }
 
 impl Maker {
+    pub fn new(seed: u64) -> Maker {
+        Maker { r: Random::new(seed), lists: Lists::default(), pool: 0, left: 0 }
+    }
+
     fn string(&mut self) -> Vec<u8> {
         match self.r.below(6) {
             0 => vec![],
@@ -145,14 +150,6 @@ impl Maker {
         }
     }
 
-    fn damaged(&mut self, bytes: &[u8]) -> Vec<u8> {
-        let mut b = bytes.to_vec();
-        for _ in 0..self.r.pick(&[1, 1, 1, 2, 3]) {
-            self.damage(&mut b);
-        }
-        b
-    }
-
     fn damage(&mut self, b: &mut Vec<u8>) {
         if b.is_empty() {
             return;
@@ -198,17 +195,23 @@ impl Maker {
     }
 }
 
-/// The bytes of a seed: each list's with three damaged copies.
-pub fn files(seed: u64, count: usize) -> impl Iterator<Item = (String, Vec<u8>)> {
-    let mut maker = Maker { r: Random::new(seed), lists: Lists::default(), pool: 0, left: 0 };
-    let mut last: Vec<u8> = vec![];
-    (0..count).map(move |n| {
-        let bytes = if n % 4 == 0 {
-            last = maker.valid();
-            last.clone()
-        } else {
-            maker.damaged(&last)
-        };
-        (format!("b{seed}_{n}"), bytes)
-    })
+impl generated::Maker for Maker {
+    type Original = Vec<u8>;
+    const COPIES: usize = 3;
+
+    fn original(&mut self) -> Vec<u8> {
+        self.valid()
+    }
+
+    fn bytes(original: &Vec<u8>) -> Vec<u8> {
+        original.clone()
+    }
+
+    fn damaged(&mut self, original: &Vec<u8>) -> Vec<u8> {
+        let mut copy = original.clone();
+        for _ in 0..self.r.pick(&[1, 1, 1, 2, 3]) {
+            self.damage(&mut copy);
+        }
+        copy
+    }
 }

@@ -1,13 +1,20 @@
 //! Bytes as text: two hex digits a byte; `@PART*COUNT:` is PART and then COUNT more bytes of its repetition.
 
 use std::fmt::Write;
+use std::io::BufRead;
+
+/// Name and bytes of each line `NAME BYTES`. Panics at a line that is not well written.
+pub fn lines(input: impl BufRead) -> impl Iterator<Item = (String, Vec<u8>)> {
+    input.lines().map(|line| {
+        let line = line.unwrap();
+        let (name, text) = line.split_once(' ').unwrap_or((&line, ""));
+        (name.to_string(), decode(text).unwrap_or_else(|| panic!("{name}: not well written")))
+    })
+}
 
 pub fn hex(bytes: &[u8]) -> String {
-    let mut out = String::with_capacity(2 * bytes.len());
-    for b in bytes {
-        write!(out, "{b:02x}").unwrap();
-    }
-    out
+    let digit = |n: u8| b"0123456789abcdef"[n as usize] as char;
+    bytes.iter().flat_map(|b| [digit(b >> 4), digit(b & 15)]).collect()
 }
 
 pub fn decode(text: &str) -> Option<Vec<u8>> {

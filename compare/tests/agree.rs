@@ -1,13 +1,12 @@
 //! The parts of the comparison agree with each other on random files.
 
+use compare::generated::{File, Kind, files};
 use compare::listing::listing;
-use compare::{
-    LIST_WORDS, ROOM, action_writer, check, compile, from_tree, lower_file, random, random_bytes, read, text, to_tree,
-};
+use compare::{LIST_WORDS, ROOM, action_writer, check, compile, from_tree, lower_file, read, text, to_tree};
 
 #[test]
 fn text_comes_back() {
-    for (name, bytes) in random::files(7, 600) {
+    for File { name, bytes, .. } in files(Kind::Scripts, 7, 600) {
         assert_eq!(text::decode(&text::encode(&bytes)).as_deref(), Some(&bytes[..]), "{name}");
     }
 }
@@ -15,7 +14,7 @@ fn text_comes_back() {
 #[test]
 fn written_bytes_are_read_as_their_lists() {
     let mut compiled = 0;
-    for (name, file) in random::files(11, 9_000) {
+    for File { name, bytes: file, .. } in files(Kind::Scripts, 11, 9_000) {
         if let Ok((lists, bytes)) = compile(&file, LIST_WORDS, usize::MAX) {
             assert_eq!(read(&bytes, LIST_WORDS), Ok(lists.by_place()), "{name}");
             compiled += 1;
@@ -27,7 +26,7 @@ fn written_bytes_are_read_as_their_lists() {
 #[test]
 fn read_lists_write_to_the_same_bytes() {
     let mut good = 0;
-    for (name, bytes) in random_bytes::files(12, 12_000) {
+    for File { name, bytes, .. } in files(Kind::Bytes, 12, 12_000) {
         match read(&bytes, LIST_WORDS) {
             Ok(lists) => {
                 assert_eq!(action_writer::write(&lists, usize::MAX), Ok(bytes), "{name}");
@@ -42,7 +41,7 @@ fn read_lists_write_to_the_same_bytes() {
 #[test]
 fn trees_come_back_from_the_script_writer() {
     let mut trees = 0;
-    for (name, file) in random::files(13, 9_000) {
+    for File { name, bytes: file, .. } in files(Kind::Scripts, 13, 9_000) {
         let Ok(script) = check::check(&file) else { continue };
         let tree = to_tree::statements(&script);
         let written = from_tree::script_file(&tree);

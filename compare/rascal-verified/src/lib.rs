@@ -7,7 +7,7 @@ mod refusal;
 mod script_writer;
 
 #[cfg(feature = "linked")]
-pub use abi::{compile, compile_within, read};
+pub use abi::{compile, compile_into, compile_within, read, read_into};
 pub use refusal::Refusal;
 pub use script_writer::{ScriptWriter, StringIndex, kind};
 

@@ -1,54 +1,64 @@
-//! against < LINES: compares the verified library with Rascal on script files, a line `NAME BYTES` each.
-//! against bytes < LINES: compares its reading of action bytes with this folder's.
+//! against KIND [SEED COUNT] [with PROGRAM [ARGUMENT]...]: compares the verified code with Rascal.
 //!
-//! A line for each difference, and the counts at the end; fails if there is a difference.
+//! KIND is `scripts`, `overflow` (scripts that fill the pool) or `bytes` (action bytes). The files are COUNT random ones of
+//! the seed or, without a seed, lines `NAME BYTES` on standard input. The verified side is the program, for instance
+//! target/bin/compile_files or target/bin/read_files, or else the static library (feature `verified`).
+//!
+//! Prints what the files come to. At the first difference it stops, makes the file smaller while the difference shows, prints
+//! it as a line that `oracle` takes, with both answers, and fails.
 
-use compare::lists::Lists;
-use compare::text::decode;
-use compare::{LIMITS, LIST_WORDS, ROOM, check, compile, list_slice, read};
-use std::io::{BufRead, stdin};
-
-/// Lists and bytes, or the refusal's number.
-type Outcome = Result<(Option<Lists>, Vec<u8>), u8>;
-
-fn of_scripts(file: &[u8]) -> (Outcome, Outcome) {
-    let ours = compile(file, LIST_WORDS, ROOM).map(|(lists, bytes)| (Some(lists), bytes));
-    let theirs = rascal_verified::compile_within(file, ROOM).map_err(|r| r.number).map(|c| {
-        let lists = check::check(file).ok().and_then(|s| list_slice::compiled(LIMITS, &c.lists, &s));
-        (lists, c.bytes)
-    });
-    (ours, theirs)
-}
-
-fn of_bytes(bytes: &[u8]) -> (Outcome, Outcome) {
-    let ours = read(bytes, LIST_WORDS).map(|lists| (Some(lists), vec![]));
-    let theirs =
-        rascal_verified::read(bytes).map_err(|r| r.number).map(|words| (list_slice::read(LIMITS, &words, bytes), vec![]));
-    (ours, theirs)
-}
+use compare::comparison::{Difference, compare};
+use compare::generated::{File, Kind, State, files};
+use compare::shrink::shrink;
+use compare::sides::Sides;
+use compare::text::{encode, lines};
+use std::io::stdin;
 
 fn main() {
-    let both = if std::env::args().nth(1).as_deref() == Some("bytes") { of_bytes } else { of_scripts };
-    let (mut count, mut refused, mut different) = (0, 0, 0);
-    for line in stdin().lock().lines() {
-        let line = line.unwrap();
-        let (name, text) = line.split_once(' ').unwrap_or((&line, ""));
-        let (ours, theirs) = both(&decode(text).unwrap_or_else(|| panic!("{name}: not well written")));
-        count += 1;
-        refused += ours.is_err() as usize;
-        if ours != theirs {
-            different += 1;
-            println!("{name}: expected {}, verified {}", short(&ours), short(&theirs));
+    let arguments: Vec<String> = std::env::args().skip(1).collect();
+    let mut parts = arguments.splitn(2, |a| a == "with");
+    let (what, program) = (parts.next().unwrap(), parts.next());
+    let kind = what.first().and_then(|kind| Kind::named(kind)).expect("scripts, overflow or bytes");
+    let sides = match program {
+        Some(command) => Sides::with_program(kind, command.to_vec()),
+        None => library(kind),
+    };
+    let files: Box<dyn Iterator<Item = File>> = match what {
+        [_, seed, count] => Box::new(files(kind, seed.parse().expect("a seed"), count.parse().expect("a count"))),
+        [_] => Box::new(lines(stdin().lock()).map(|(name, bytes)| File { name, bytes, state: State::Given })),
+        _ => panic!("against KIND [SEED COUNT] [with PROGRAM [ARGUMENT]...]"),
+    };
+    let (counts, difference) = compare(&sides, kind, files);
+    for (state, counts) in counts {
+        println!("{state:?}: {counts}");
+    }
+    match difference {
+        None => println!("no difference"),
+        Some(difference) => {
+            report(&sides, kind, difference);
+            std::process::exit(1);
         }
     }
-    println!("{count} compared, {refused} of them refused, {different} differences");
-    std::process::exit((different > 0) as i32);
 }
 
-fn short(outcome: &Outcome) -> String {
-    match outcome {
-        Ok((Some(lists), bytes)) => format!("{} lists, {} bytes", lists.0.len(), bytes.len()),
-        Ok((None, _)) => "a list slice that is not laid out right".to_string(),
-        Err(number) => format!("refusal {number}"),
+#[cfg(feature = "verified")]
+fn library(kind: Kind) -> Sides {
+    Sides::with_library(kind)
+}
+
+#[cfg(not(feature = "verified"))]
+fn library(_: Kind) -> Sides {
+    panic!("name a program, or build with the feature `verified`")
+}
+
+fn report(sides: &Sides, kind: Kind, found: Difference) {
+    println!("difference in {}, {} bytes", found.name, found.file.len());
+    let small = shrink(sides, kind, found.file);
+    let (mut rascal, mut verified) = sides.both(&small);
+    if rascal == verified {
+        println!("it shows only after the files before it");
+        (rascal, verified) = (found.rascal, found.verified);
     }
+    println!("{} {}", found.name, encode(&small));
+    print!("Rascal:\n{rascal}verified:\n{verified}");
 }

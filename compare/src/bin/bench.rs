@@ -1,19 +1,16 @@
-//! bench [PART]: the time of each step for scripts of several shapes, the best of several runs, in microseconds.
+//! bench [PART]: the time from a script file to its action bytes or its refusal, for scripts of several shapes: rows of
+//! docs/SPEED.md, the best of several runs, in microseconds. PART is a part of the rows' names.
 //!
-//! Columns: the check of the file; the tree from its records; Rascal's lowering; the flat lists; the bytes; all of them.
-//! With the feature `verified`, one more: the verified compile call on the same file.
+//! Rascal's time is that of its lowering with the check, the tree, the flat lists and the bytes of this folder. The verified
+//! column needs the feature `verified`; the slices are lent once and used in every run.
 
 use compare::kinds::*;
 use compare::node::*;
-use compare::{LIMITS, action_writer, check, lists, lower, to_tree};
+use compare::{LIST_WORDS, ROOM, WIDE_ROOM, compile};
 use std::hint::black_box;
 use std::time::Instant;
 
-fn plays(count: usize) -> Vec<Node> {
-    vec![run(node(PLAY, [])); count]
-}
-
-/// A script of this many actions or a few less, of common statements.
+/// A script of this many actions, of common statements.
 fn common(actions: usize) -> Vec<Node> {
     let mut out = vec![];
     let mut used = 1;
@@ -30,48 +27,62 @@ fn common(actions: usize) -> Vec<Node> {
         used += more;
         out.push(statement);
     }
-    out.extend(plays(actions - used));
+    out.extend(vec![run(node(PLAY, [])); actions - used]);
     out
 }
 
-struct Shape {
-    name: &'static str,
-    strings: Vec<Vec<u8>>,
-    statements: Vec<Node>,
+type Shape = (String, Vec<u8>);
+
+fn shape<S: AsRef<[u8]>>(name: impl Into<String>, strings: &[S], statements: Vec<Node>) -> Shape {
+    (name.into(), file(strings, statements))
 }
 
-fn array(values: Vec<Node>) -> Node {
-    run(node(INIT_ARRAY, [list(values)]))
+/// An array of this many different strings of 35 bytes.
+fn pooled(count: u32) -> (Vec<String>, Vec<Node>) {
+    ((0..count).map(|i| format!("{i:035}")).collect(), array((0..count).map(string).collect()))
 }
+
+fn array(values: Vec<Node>) -> Vec<Node> {
+    vec![run(node(INIT_ARRAY, [list(values)]))]
+}
+
+const NONE: [&str; 0] = [];
+const FEW: [&str; 4] = ["a", "b", "f", "text"];
 
 fn shapes() -> Vec<Shape> {
-    let few: Vec<Vec<u8>> = ["a", "b", "f", "text"].iter().map(|s| s.as_bytes().to_vec()).collect();
-    let shape = |name, strings: &Vec<Vec<u8>>, statements| Shape { name, strings: strings.clone(), statements };
-    let filling: Vec<Vec<u8>> = (0..1_820).map(|i| format!("{i:035}").into_bytes()).collect();
-    let emitting_nothing = vec![node(BREAK, []); 50_000];
-    let body = function(0, 0, 0, &[], emitting_nothing.clone());
+    let (strings, pushes) = pooled(1_820);
+    let body = function(0, 0, 0, &[], vec![node(BREAK, []); 50_000]);
     let again = (0..58).fold(body, |e, _| binary(2, field(e, integer(1)), integer(2)));
     let left = (0..60).fold(name(0), |e, _| binary(2, field(e, integer(1)), integer(2)));
     let right = (0..100).fold(integer(1), |e, _| binary(2, name(0), e));
     let steps = (0..60).fold(name(0), |e, _| unary(3, 0, field(e, integer(1))));
+    let inner = (0..20).fold(run(node(PLAY, [])), |e, _| run(function(0, 2, 3, &[(0, 1)], vec![e])));
     vec![
-        shape("10 actions", &few, common(10)),
-        shape("100 actions", &few, common(100)),
-        shape("1,000 actions", &few, common(1_000)),
-        shape("full pool", &filling, vec![array((0..1_820).map(string).collect())]),
-        shape("2,048 values", &vec![], vec![array(vec![integer(7); 2_047])]),
-        shape("1 MiB of a string", &vec![vec![b'a'; 1_048_000]], vec![run(integer(1))]),
-        shape("1 MiB of records", &vec![], vec![node(BREAK, []); 52_426]),
-        shape("50,000 siblings in a function, emitted again and again", &few, vec![run(again)]),
-        shape("compound assignments, 60 deep on the left", &few, vec![run(left)]),
-        shape("compound assignments, 100 deep on the right", &few, vec![run(right)]),
-        shape("increments, 60 deep", &few, vec![run(steps)]),
-        shape(
-            "20 functions in each other",
-            &few,
-            vec![(0..20).fold(plays(1).remove(0), |e, _| run(function(0, 2, 3, &[(0, 1)], vec![e])))],
-        ),
+        shape("10 actions", &FEW, common(10)),
+        shape("100 actions", &FEW, common(100)),
+        shape("1,000 actions", &FEW, common(1_000)),
+        shape("full pool: 1,820 strings of 35 bytes", &strings, pushes),
+        shape("2,048 values", &NONE, array(vec![integer(7); 2_047])),
+        shape("1 MiB of one string", &["a".repeat(1_048_000)], vec![run(integer(1))]),
+        shape("1 MiB of records", &NONE, vec![node(BREAK, []); 52_426]),
+        shape("50,000 siblings in a function that is emitted again and again", &FEW, vec![run(again)]),
+        shape("compound assignments, 60 deep on the left", &FEW, vec![run(left)]),
+        shape("compound assignments, 100 deep on the right", &FEW, vec![run(right)]),
+        shape("increments, 60 deep", &FEW, vec![run(steps)]),
+        shape("20 functions in each other", &FEW, vec![inner]),
     ]
+}
+
+/// Twice as much in each row as in the one before.
+fn growing() -> Vec<Shape> {
+    let actions = [100, 200, 400, 800].map(|n| shape(format!("growth: {n} actions"), &FEW, common(n)));
+    let records =
+        [10_000, 20_000, 40_000].map(|n| shape(format!("growth: {} records", thousands(n)), &NONE, vec![node(BREAK, []); n - 1]));
+    let strings = [400, 800, 1_600].map(|n| {
+        let (strings, pushes) = pooled(n);
+        shape(format!("growth: {} pooled strings of 35 bytes", thousands(n as usize)), &strings, pushes)
+    });
+    actions.into_iter().chain(records).chain(strings).collect()
 }
 
 /// The best time of several runs.
@@ -79,7 +90,7 @@ fn best<T>(mut work: impl FnMut() -> T) -> f64 {
     let begin = Instant::now();
     let mut best = f64::MAX;
     let mut runs = 0;
-    while runs < 3 || begin.elapsed().as_millis() < 50 && runs < 1_000 {
+    while runs < 3 || begin.elapsed().as_millis() < 200 && runs < 1_000 {
         let start = Instant::now();
         black_box(work());
         best = best.min(start.elapsed().as_secs_f64());
@@ -88,37 +99,34 @@ fn best<T>(mut work: impl FnMut() -> T) -> f64 {
     best * 1e6
 }
 
+#[cfg(feature = "verified")]
+fn verified(file: &[u8], room: usize) -> String {
+    let (mut lists, mut output) = (vec![0; LIST_WORDS], vec![0; room]);
+    shown(best(|| rascal_verified::compile_into(file, &mut lists, &mut output)))
+}
+
+#[cfg(not(feature = "verified"))]
+fn verified(_: &[u8], _: usize) -> String {
+    "-".to_string()
+}
+
+fn thousands(n: usize) -> String {
+    if n < 1_000 { n.to_string() } else { format!("{},{:03}", thousands(n / 1_000), n % 1_000) }
+}
+
+fn shown(time: f64) -> String {
+    if time < 100.0 { format!("{time:.1}") } else { thousands(time.round() as usize) }
+}
+
 fn main() {
     let part = std::env::args().nth(1).unwrap_or_default();
-    println!(
-        "{:56} {:>9} {:>9} {:>9} {:>9} {:>9} {:>9} {:>9}  answer",
-        "script", "bytes", "check", "tree", "lower", "lists", "write", "all"
-    );
-    for shape in shapes().into_iter().filter(|s| s.name.contains(&part)) {
-        let bytes = file(&shape.strings, shape.statements);
-        let script = check::check(&bytes).unwrap();
-        let tree = to_tree::statements(&script);
-        let checks = best(|| check::check(&bytes).is_ok());
-        let trees = best(|| to_tree::statements(&script));
-        let lowers = best(|| lower::actions(LIMITS, &tree));
-        let (mut flat, mut writes) = (0.0, 0.0);
-        let answer = match lower::actions(LIMITS, &tree) {
-            Ok(actions) => {
-                let all = lists::from_actions(&actions);
-                flat = best(|| lists::from_actions(&actions));
-                writes = best(|| action_writer::write(&all, usize::MAX));
-                action_writer::write(&all, usize::MAX).map_or_else(|n| format!("refused {n}"), |b| format!("{} bytes", b.len()))
-            }
-            Err(number) => format!("refused {number}"),
-        };
-        let sum = checks + trees + lowers + flat + writes;
-        print!(
-            "{:56} {:>9} {checks:>9.1} {trees:>9.1} {lowers:>9.1} {flat:>9.1} {writes:>9.1} {sum:>9.1}  {answer}",
-            shape.name,
-            bytes.len()
-        );
-        #[cfg(feature = "verified")]
-        print!("  verified {:.1}", best(|| rascal_verified::compile(&bytes)));
-        println!();
+    println!("| Script | Bytes | This repository | Rascal |\n|---|---:|---:|---:|");
+    for (name, file) in shapes().into_iter().chain(growing()).filter(|(name, _)| name.contains(&part)) {
+        let answer = compile(&file, LIST_WORDS, WIDE_ROOM);
+        let note = answer.as_ref().map_or_else(|number| format!(" (refusal {number})"), |_| String::new());
+        // What the programs lend, where the bytes fit.
+        let room = if answer.is_ok_and(|(_, bytes)| bytes.len() > ROOM) { WIDE_ROOM } else { ROOM };
+        let rascal = shown(best(|| compile(&file, LIST_WORDS, room)));
+        println!("| {name}{note} | {} | {} | {rascal} |", thousands(file.len()), verified(&file, room));
     }
 }

@@ -7,11 +7,14 @@
 //! Where an answer is written here it comes from document 01, and Rascal's answer must agree with it. The program fails if
 //! some kind, operator, action code or refusal is not reached.
 
+use compare::generated::{File, Kind, files as files_of};
 use compare::kinds::*;
+use compare::listing::listing;
 use compare::lists::{Act, Lists, PLAIN, Target, Value};
 use compare::node::*;
+use compare::properties::{NEARLY, PROPERTIES};
 use compare::text::{encode, hex};
-use compare::{LIST_WORDS, ROOM, action_writer, compile, listing::listing, lower_file, random, random_bytes, read};
+use compare::{LIST_WORDS, ROOM, action_writer, answer, compile, lower_file, read};
 use std::cell::RefCell;
 use std::collections::{BTreeMap, BTreeSet};
 use std::fmt::Write;
@@ -148,24 +151,14 @@ impl Corpus {
             Rust => {}
         }
         self.reach(&file, &lowered, compiled.as_ref().err().copied());
-        let listed = lowered.as_ref().map(listing);
-        let is_large = listed.as_ref().is_ok_and(|text| text.len() > 30_000);
-        let out = if is_large { &mut self.large } else { &mut self.small };
+        if let Ok((lists, bytes)) = &compiled {
+            assert_eq!(read(bytes, LIST_WORDS), Ok(lists.by_place()), "{name}");
+        }
+        let listed = answer::listed(&lowered);
+        let out = if listed.len() > 30_000 { &mut self.large } else { &mut self.small };
         writeln!(out.stdin, "{name} {}", encode(&file)).unwrap();
-        writeln!(out.lowering, "{name}").unwrap();
-        writeln!(out.compile, "{name}").unwrap();
-        match listed {
-            Ok(text) => out.lowering += &text,
-            Err(number) => writeln!(out.lowering, "refused {number}").unwrap(),
-        }
-        match compiled {
-            Ok((lists, bytes)) => {
-                assert_eq!(read(&bytes, LIST_WORDS), Ok(lists.by_place()), "{name}");
-                out.compile += &listing(&lists);
-                writeln!(out.compile, "bytes {} {}", bytes.len(), hex(&bytes)).unwrap();
-            }
-            Err(number) => writeln!(out.compile, "refused {number}").unwrap(),
-        }
+        write!(out.lowering, "{name}\n{listed}").unwrap();
+        write!(out.compile, "{name}\n{}", answer::compiled_in_short(&compiled)).unwrap();
         self.count += 1;
     }
 
@@ -181,24 +174,7 @@ impl Corpus {
             }
         }
         for act in lists.0.iter().flat_map(|l| &l.actions) {
-            self.codes.insert(match act {
-                Act::Plain(code) => *code,
-                Act::GotoFrame(_) => 0x81,
-                Act::StoreRegister(_) => 0x87,
-                Act::ConstantPool(_) => 0x88,
-                Act::GotoLabel(_) => 0x8C,
-                Act::Function(f) => {
-                    if f.registers.is_some() {
-                        0x8E
-                    } else {
-                        0x9B
-                    }
-                }
-                Act::Push(_) => 0x96,
-                Act::Jump(_) => 0x99,
-                Act::If(_) => 0x9D,
-                Act::GotoFrame2(..) => 0x9F,
-            });
+            self.codes.insert(act.code());
             if let Act::Push(values) = act {
                 for v in values {
                     self.values.insert(match v {
@@ -630,33 +606,8 @@ fn children_are_used(c: &mut Corpus) {
 
 // ---------------------------------------------------------------- names
 
-const PROPERTY_NAMES: [&str; 22] = [
-    "_x",
-    "_y",
-    "_xscale",
-    "_yscale",
-    "_currentframe",
-    "_totalframes",
-    "_alpha",
-    "_visible",
-    "_width",
-    "_height",
-    "_rotation",
-    "_target",
-    "_framesloaded",
-    "_name",
-    "_droptarget",
-    "_url",
-    "_highquality",
-    "_focusrect",
-    "_soundbuftime",
-    "_quality",
-    "_xmouse",
-    "_ymouse",
-];
-
 fn names(c: &mut Corpus) {
-    for (number, word) in PROPERTY_NAMES.iter().enumerate() {
+    for (number, word) in PROPERTIES.iter().enumerate() {
         let text = format!("list 0 length 4\n0 ConstantPool -\n1 Push Constant 0 Integer {number}\n2 GetProperty\n3 Pop\n");
         c.script(&format!("property_{number}"), Listing(&text), vec![run(n(word))]);
         let odd: String =
@@ -664,16 +615,7 @@ fn names(c: &mut Corpus) {
         let text = format!("list 0 length 3\n0 ConstantPool -\n1 Push Constant 0 Integer {number} Integer 1\n2 SetProperty\n");
         c.script(&format!("property_{number}_set_in_odd_case"), Listing(&text), vec![run(assign(n(&odd), k(1)))]);
     }
-    let none = [
-        "_",
-        "",
-        "x",
-        "_xx",
-        "_xs",
-        "_xscal",
-        "_xscale_",
-        " _x",
-        "_x ",
+    let others = [
         "_url2",
         "_ymous",
         "_ymousee",
@@ -690,6 +632,7 @@ fn names(c: &mut Corpus) {
         "undefinedd",
         "_X\u{301}",
     ];
+    let none = [&["_", ""][..], &NEARLY, &others].concat();
     for (at, word) in none.into_iter().enumerate() {
         let shown = if word.is_empty() { "-".to_string() } else { hex(word.as_bytes()) };
         let text = format!("list 0 length 4\n0 ConstantPool {shown}\n1 Push Constant 0\n2 GetVariable\n3 Pop\n");
@@ -1309,16 +1252,13 @@ impl BytesCorpus {
 
     fn rust(&mut self, name: &str, bytes: &[u8]) {
         assert!(self.names.insert(name.to_string()), "{name}");
-        writeln!(self.stdin, "{name} {}", encode(bytes)).unwrap();
-        writeln!(self.expected, "{name}").unwrap();
-        match read(bytes, LIST_WORDS) {
-            Ok(lists) => {
-                assert_eq!(action_writer::write(&lists, usize::MAX).as_deref(), Ok(bytes), "{name}");
-                self.expected += &listing(&lists);
-                self.read += 1;
-            }
-            Err(number) => writeln!(self.expected, "refused {number}").unwrap(),
+        let lists = read(bytes, LIST_WORDS);
+        if let Ok(lists) = &lists {
+            assert_eq!(action_writer::write(lists, usize::MAX).as_deref(), Ok(bytes), "{name}");
+            self.read += 1;
         }
+        writeln!(self.stdin, "{name} {}", encode(bytes)).unwrap();
+        write!(self.expected, "{name}\n{}", answer::listed(&lists)).unwrap();
         self.count += 1;
     }
 
@@ -1471,7 +1411,7 @@ fn action_bytes() -> BytesCorpus {
     };
     c.put("functions_1023_deep", true, &nested(1_023));
     c.put("functions_1024_deep", false, &nested(1_024));
-    for (name, bytes) in random_bytes::files(77, 2_000) {
+    for File { name, bytes, .. } in files_of(Kind::Bytes, 77, 2_000) {
         if bytes.len() < 160 {
             c.rust(&name, &bytes);
         }
@@ -1501,7 +1441,7 @@ fn main() {
     ] {
         make(&mut c);
     }
-    for (name, bytes) in random::files(41, 900) {
+    for File { name, bytes, .. } in files_of(Kind::Scripts, 41, 900) {
         if bytes.len() < 1_500 && bytes.len() > 100 && compare::check::check(&bytes).is_ok() {
             c.file(&name, Rust, bytes);
         }

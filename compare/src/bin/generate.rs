@@ -1,28 +1,18 @@
-//! generate scripts SEED COUNT   random script files, a line `NAME BYTES` each
-//! generate bytes SEED COUNT     random action bytes
+//! generate KIND SEED COUNT: random files of a seed, a line `NAME BYTES` each, damaged copies after each original.
+//!
+//! KIND is `scripts`, `overflow` (scripts that fill the pool) or `bytes` (action bytes).
 
+use compare::generated::{Kind, files};
 use compare::text::encode;
 use std::io::{BufWriter, Write, stdout};
 
 fn main() {
     let arguments: Vec<String> = std::env::args().skip(1).collect();
-    let arguments: Vec<&str> = arguments.iter().map(String::as_str).collect();
+    let [kind, seed, count] = &arguments[..] else { panic!("generate KIND SEED COUNT") };
+    let kind = Kind::named(kind).expect("scripts, overflow or bytes");
+    let (seed, count) = (seed.parse().expect("a seed"), count.parse().expect("a count"));
     let mut out = BufWriter::new(stdout().lock());
-    let number = |text: &str| text.parse::<u64>().expect("a number");
-    match arguments[..] {
-        ["scripts", seed, count] => {
-            for (name, bytes) in compare::random::files(number(seed), number(count) as usize) {
-                writeln!(out, "{name} {}", encode(&bytes)).unwrap();
-            }
-        }
-        ["bytes", seed, count] => {
-            for (name, bytes) in compare::random_bytes::files(number(seed), number(count) as usize) {
-                writeln!(out, "{name} {}", encode(&bytes)).unwrap();
-            }
-        }
-        _ => {
-            eprintln!("generate scripts SEED COUNT | bytes SEED COUNT");
-            std::process::exit(2);
-        }
+    for file in files(kind, seed, count) {
+        writeln!(out, "{} {}", file.name, encode(&file.bytes)).unwrap();
     }
 }

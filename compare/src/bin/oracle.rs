@@ -5,7 +5,8 @@
 //!   oracle bytes FILE           its action bytes in hex
 //!   oracle read FILE            the listing by place of action bytes
 //!   oracle lower < LINES        for each line `NAME BYTES`: `NAME`, then the listing or `refused N`; 9 to 12 not applied
-//!   oracle compile < LINES      the same with 9 to 12, for an output of 65,536 bytes; after the listing `bytes N HEX`
+//!   oracle compile < LINES      the same with 9 to 12, for an output of 65,536 bytes; after the listing `bytes N HEX`, and for
+//!                               more than 20,000 bytes only `length N sum S`
 //!   oracle reads < LINES        the same for action bytes: the listing by place or `refused 14`
 //!   oracle short < LINES        for each line one line: `NAME refused N` or `NAME LISTS BYTES`, two numbers of 64 bits that
 //!                               stand for the listing and the bytes
@@ -15,10 +16,11 @@
 //!
 //! BYTES are two hex digits a byte; `@PART*COUNT:` is PART and then COUNT more bytes of its repetition.
 
+use compare::answer::{compiled_in_short, listed};
 use compare::listing::listing;
-use compare::text::{decode, hex};
+use compare::text::{hex, lines};
 use compare::{LIMITS, Limits, ROOM, check, list_words};
-use std::io::{BufRead, BufWriter, Read, Write, stdin, stdout};
+use std::io::{BufWriter, Read, Write, stdin, stdout};
 
 /// The longest file that the listing program takes.
 const LISTED: usize = 65_536;
@@ -40,19 +42,16 @@ fn main() {
     match *arguments {
         ["list", file] => {
             let file = content(file);
-            print!("{}", listed(if file.len() > LISTED { Err(4) } else { compile(&file).map(|c| c.0) }));
+            print!("{}", listed(&if file.len() > LISTED { Err(4) } else { compile(&file).map(|c| c.0) }));
         }
         ["bytes", file] => match compile(&content(file)) {
             Ok((_, bytes)) => println!("{}", hex(&bytes)),
             Err(n) => println!("refused {n}"),
         },
-        ["read", file] => print!("{}", listed(read(&content(file)))),
-        ["lower"] => each(|file| format!("\n{}", listed(lower_file(file)))),
-        ["compile"] => each(|file| match compile(file) {
-            Ok((lists, bytes)) => format!("\n{}bytes {} {}\n", listing(&lists), bytes.len(), hex(&bytes)),
-            Err(n) => format!("\nrefused {n}\n"),
-        }),
-        ["reads"] => each(|bytes| format!("\n{}", listed(read(bytes)))),
+        ["read", file] => print!("{}", listed(&read(&content(file)))),
+        ["lower"] => each(|file| format!("\n{}", listed(&lower_file(file)))),
+        ["compile"] => each(|file| format!("\n{}", compiled_in_short(&compile(file)))),
+        ["reads"] => each(|bytes| format!("\n{}", listed(&read(bytes)))),
         ["short"] => each(|file| match compile(file) {
             Ok((lists, bytes)) => format!(" {:016x} {:016x}\n", digest(listing(&lists).as_bytes()), digest(&bytes)),
             Err(n) => format!(" refused {n}\n"),
@@ -74,19 +73,9 @@ fn content(name: &str) -> Vec<u8> {
     std::fs::read(name).unwrap_or_else(|e| panic!("{name}: {e}"))
 }
 
-fn listed(lists: Result<compare::lists::Lists, u8>) -> String {
-    match lists {
-        Ok(lists) => listing(&lists),
-        Err(n) => format!("refused {n}\n"),
-    }
-}
-
 fn each(answer: impl Fn(&[u8]) -> String) {
     let mut out = BufWriter::new(stdout().lock());
-    for line in stdin().lock().lines() {
-        let line = line.unwrap();
-        let (name, text) = line.split_once(' ').unwrap_or((&line, ""));
-        let bytes = decode(text).unwrap_or_else(|| panic!("{name}: not well written"));
+    for (name, bytes) in lines(stdin().lock()) {
         write!(out, "{name}{}", answer(&bytes)).unwrap();
     }
 }

@@ -12,7 +12,7 @@ ghost use Rattle.lowering.specs.Access.{for-identifier, for-name, for-constant,
 ghost use Rattle.special_properties.specs.SpecialProperties.{sameBytes, null, undefined};
 ghost use Rattle.list_slice.specs.File.{namesString, textIn};
 ghost use Rattle.codegen_state.specs.View.{named, valueIn};
-ghost use Rattle.codegen_state.specs.Does.{Fine, Does};
+ghost use Rattle.codegen_state.specs.Does.{Fine, Named, Does};
 ghost use Rattle.tree.specs.Within.{constant-named};
 ghost use Rattle.access.specs.Accesses.{accessOf, pushed-direct, set-and-push, call-register};
 use builder::builder::action;
@@ -50,6 +50,7 @@ pub struct Accessed {
 fn for_name(file: &[u8], l: Layout, list: &mut [u32], b: CodeBuilder, name: u32) -> Accessed
     requires { ⌜ Fine b (now list) ⌝ }
     requires { ⌜ l ≡ layoutOf (now file) ⌝ }
+    requires { ⌜ Named (now file) b (now list) ⌝ }
     ensures { λ r. ⌜ (T (namesString (now (file .entry)) name) →
         Does (now (file .entry)) (for-name (sameBytes (textIn (now (file .entry)) name) null) (sameBytes (textIn (now (file .entry)) name) undefined) (textIn (now (file .entry)) name))
         b (now (list .entry)) (accessOf (r .access)) (r .b) (now (list .exit))) ⌝ }
@@ -93,6 +94,7 @@ pub fn for_identifier(
 ) -> Accessed
     requires { ⌜ Fine b (now list) ⌝ }
     requires { ⌜ l ≡ layoutOf (now file) ⌝ }
+    requires { ⌜ Named (now file) b (now list) ⌝ }
     ensures { λ r. ⌜ (T (namesString (now (file .entry)) name) →
         Does (now (file .entry)) (for-identifier (textIn (now (file .entry)) name)) b (now (list .entry)) (accessOf (r .access)) (r .b) (now (list .exit))) ⌝ }
 {
@@ -134,6 +136,7 @@ pub fn for_constant(
 ) -> Accessed
     requires { ⌜ Fine b (now list) ⌝ }
     requires { ⌜ l ≡ layoutOf (now file) ⌝ }
+    requires { ⌜ Named (now file) b (now list) ⌝ }
     ensures { λ r. ⌜ (length (now (file .entry)) ≤ 1048576 → T (constant-named (now (file .entry)) c) →
         Does (now (file .entry)) (for-constant (constantOver (stringAt (now (file .entry)) (layoutOf (now (file .entry)))) c))
         b (now (list .entry)) (accessOf (r .access)) (r .b) (now (list .exit))) ⌝ }

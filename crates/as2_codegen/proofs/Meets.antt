@@ -28,7 +28,7 @@ use Rattle.codegen_state.proofs.Steps.{held-stopped, held-holds}
 use Rattle.tree.specs.Trees.{trees}
 use Rattle.tree.specs.Within.{Within, meaningsAt}
 use Rattle.tree.proofs.Accepted.{statementsIn, accepted-within, accepted-trees}
-use Rattle.codegen.specs.Walk.{Walk}
+use Rattle.statement.specs.Walk.{Walk}
 use Rattle.rows.specs.declared.Loop.{Loop}
 use Rattle.rows.specs.Rows.{loopOf}
 use Rattle.builder.specs.Places.{finished}
@@ -47,7 +47,7 @@ zeros-length n = length-replicate {A = ℕ} n 0
 
 -- the statements' part has room in a scratch slice of as many words
 pub walk : {F : List ℕ} {l : Layout} {p : Part} {b : CodeBuilder} {w : List ℕ} {room : ℕ} → Generating F l p b w → p .n ≤ room → Walk F l p b w room
-walk g h = record { within = g .within; fits = h; fine = g .fine }
+walk g h = record { within = g .within; fits = h; fine = g .fine; named = g .named }
 
 pub few : {F : List ℕ} {l : Layout} {p : Part} {b : CodeBuilder} {w : List ℕ} → Generating F l p b w → p .n < 65536
 few g = omega (arith, g .within .inside, g .within .known, g .within .sound .few)
@@ -87,7 +87,7 @@ module _ (F : List ℕ) (accepted : checkOf F ≡ 0) where
     all-statements = is-part ∙ ap statementsPart is-layout
 
     pub generating : (b : CodeBuilder) (w : List ℕ) → Begun F b w → Generating F l p b w
-    generating b w g = record { within = rw (is-layout, all-statements) (accepted-within F accepted); fine = g .fine }
+    generating b w g = record { within = rw (is-layout, all-statements) (accepted-within F accepted); fine = g .fine; named = g .named }
 
     pub of-statements : (b : CodeBuilder) (w : List ℕ) (r : CodeBuilder) (w′ : List ℕ) → Does F (gen-statements no-loop (meaningsAt F p)) b w tt r w′ →
         Does F (gen-statements no-loop (meaningsAt F (statementsIn F))) b w tt r w′

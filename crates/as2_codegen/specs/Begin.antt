@@ -26,3 +26,4 @@ statementsPart l = record { end = l .count - 1; n = l .count - 1 }
 pub record Generating (F : List ℕ) (l : Layout) (p : Part) (b : CodeBuilder) (w : List ℕ) : Type 0 where
   pub within : Within F l p
   pub fine : Fine b w
+  pub named : Named F b w

@@ -13,7 +13,7 @@ ghost use Rattle.as2_codegen.specs.Lowering.{Lowers};
 ghost use Rattle.as2_codegen.specs.Begin.{Begun, statementsPart, Generating};
 use builder::entries::put;
 use builder::finish::into_actions;
-use codegen::statement::gen_statements;
+use statement::gen_statements;
 use codegen_state::CodeBuilder;
 use rows::no_loop;
 use script::Answer;

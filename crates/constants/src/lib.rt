@@ -9,7 +9,7 @@ ghost use Rattle.script_records.specs.Layout.{layoutOf};
 ghost use Rattle.lowering.specs.Builder.{push-string};
 ghost use Rattle.list_slice.specs.File.{namesString, textIn};
 ghost use Rattle.codegen_state.specs.View.{poolFrom, poolOf};
-ghost use Rattle.codegen_state.specs.Does.{Fine, Does};
+ghost use Rattle.codegen_state.specs.Does.{Fine, Named, Does};
 ghost use Rattle.constants.specs.Pool.{place, foundOf, Added};
 use builder::builder::push;
 use codegen_state::CodeBuilder;
@@ -109,6 +109,7 @@ fn push_new(file: &[u8], l: Layout, list: &mut [u32], b: CodeBuilder, s: u32) ->
 pub fn push_string(file: &[u8], l: Layout, list: &mut [u32], b: CodeBuilder, s: u32) -> CodeBuilder
     requires { ⌜ Fine b (now list) ⌝ }
     requires { ⌜ l ≡ layoutOf (now file) ⌝ }
+    requires { ⌜ Named (now file) b (now list) ⌝ }
     ensures { λ r. ⌜ (T (namesString (now (file .entry)) s) →
         Does (now (file .entry)) (push-string (textIn (now (file .entry)) s)) b (now (list .entry)) tt r (now (list .exit))) ⌝ }
 {

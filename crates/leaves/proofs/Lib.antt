@@ -1,3 +1,4 @@
 mod Numbers
 mod Constructs
 mod Records
+mod Hoisting

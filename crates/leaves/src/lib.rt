@@ -17,11 +17,11 @@ ghost use Rattle.hir.specs.Tree.{Forest};
 ghost use Rattle.lowering.specs.Meaning.{Meaning, param, hoisted, is-named, shapeOf, kid};
 ghost use Rattle.lowering.specs.Statement as statement;
 ghost use Rattle.list_slice.specs.File.{namesString, textIn};
-ghost use Rattle.codegen_state.specs.Does.{Fine, Does};
+ghost use Rattle.codegen_state.specs.Does.{Fine, Named, Does};
 ghost use Rattle.tree.specs.Trees.{recOf, isLabelled, isCase, meant};
-ghost use Rattle.tree.specs.Within.{Within, constant-named, target-named, record-named, kidAt, listAt};
+ghost use Rattle.tree.specs.Within.{Within, constant-named, target-named, record-named, meaningsAt, kidAt, listAt};
 ghost use Rattle.access.specs.Accesses.{accessOf};
-ghost use Rattle.rows.specs.Rows.{labelOf};
+ghost use Rattle.rows.specs.Rows.{labelOf, any-hoisted};
 use access::Access;
 use access::for_constant;
 use access::for_identifier;
@@ -54,6 +54,7 @@ use tree::Counts;
 use tree::Element;
 use tree::kind_at;
 use tree::node_at;
+use tree::rest_of;
 
 // An assignment whose value is discarded, or wanted.
 pub fn assign_value(list: &mut [u32], b: CodeBuilder, discard: bool, access: Access) -> CodeBuilder
@@ -78,6 +79,7 @@ pub fn read_constant(
     requires { ⌜ l ≡ layoutOf (now file) ⌝ }
     requires { ⌜ length (now file) ≤ 1048576 ⌝ }
     requires { ⌜ T (constant-named (now file) c) ⌝ }
+    requires { ⌜ Named (now file) b (now list) ⌝ }
     ensures { λ r. ⌜ Does (now (file .entry)) (steps._>>=_ (access.for-constant (constantOver (stringAt (now (file .entry)) (layoutOf (now (file .entry)))) c)) access.get-value)
         b (now (list .entry)) tt r (now (list .exit)) ⌝ }
 {
@@ -110,6 +112,7 @@ pub fn gen_target(
     requires { ⌜ l ≡ layoutOf (now file) ⌝ }
     requires { ⌜ length (now file) ≤ 1048576 ⌝ }
     requires { ⌜ T (target-named (now file) target) ⌝ }
+    requires { ⌜ Named (now file) b (now list) ⌝ }
     ensures { λ r. ⌜ Does (now (file .entry)) (statement.gen-target (targetOver (stringAt (now (file .entry)) (layoutOf (now (file .entry)))) target))
         b (now (list .entry)) tt r (now (list .exit)) ⌝ }
 {
@@ -298,6 +301,22 @@ pub fn is_hoisted(file: &[u8], l: Layout, p: Part) -> bool
         return false;
     }
     is_named(file, l, p)
+}
+
+// Whether some tree of a row is hoisted: most rows have none.
+pub fn has_hoisted(file: &[u8], l: Layout, p: Part) -> bool
+    requires { ⌜ Within (now file) l p ⌝ }
+    ensures { λ r. ⌜ r ≡ any-hoisted (meaningsAt (now (file .entry)) p) ⌝ }
+{
+    let mut left = p;
+    while left.n != 0 {
+        if is_hoisted(file, l, left) {
+            return true;
+        }
+        let before = rest_of(file, l, left);
+        left = before;
+    }
+    false
 }
 
 pub fn is_labelled(e: Element) -> u32

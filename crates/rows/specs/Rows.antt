@@ -1,6 +1,6 @@
 -- What is done with each tree of a row, in one form for all rows.
 use Prim.Native.Nat.{ℕ, _+_}
-use mathlib.Core.Bool.{Bool, true, false, not}
+use mathlib.Core.Bool.{Bool, true, false, not, _||_}
 use mathlib.Core.List.{List}
 use mathlib.Core.Option.{Option, none, some}
 use lib.Dec.{ltb}
@@ -62,6 +62,11 @@ oneOf Element lp f d s c m kids = switch-element lp f d s m (element (m .rec))
 unfoldable pub eachOf : Each → Loop → (first default : ℕ) → Forest Meaning → Step
 eachOf e lp f d Forest.none = done
 eachOf e lp f d (more ms m kids) = eachOf e lp f d ms >> oneOf e lp f d (labels-of ms) (cases-of ms) m kids
+
+-- whether a row has a tree that is hoisted
+unfoldable pub any-hoisted : Forest Meaning → Bool
+any-hoisted Forest.none = false
+any-hoisted (more ms m kids) = hoisted (m .rec) kids || any-hoisted ms
 
 -- the tests of a switch that has a Case
 abbrev pub select : Meaning → List SwitchElement → Step

@@ -13,7 +13,7 @@ push-string-requires : tie.Need-push-string-requires
 push-string-requires c κs = search needs
 
 push-requires : tie.Need-push-requires
-push-requires c κs = c .before .before .before .push-string .ensures (rw (c .before .before .before .before .before .before .before .target .given .1) at (c .before .before .before .before .before .before .before .before .before .before .before .pre .1 .1 .1)) .fine
+push-requires c κs = c .before .before .before .push-string .ensures (rw (c .before .before .before .before .before .before .before .target .given .1) at (c .before .before .before .before .before .before .before .before .before .before .before .pre .1 .1 .1 .0)) .fine
 
 action-requires : tie.Need-action-requires
 action-requires c κs = c .before .before .before .push .ensures [] tt .fine
@@ -22,13 +22,13 @@ same-length : tie.Need-same-length
 same-length c = search needs
 
 returns : tie.Need-returns
-returns c = declared (now (c .before .before .before .before .before .before .before .before .before .before .before .before .before .before .before .before .before .before .args .file)) (c .before .before .before .before .before .before .before .before .before .before .before .before .before .before .target .given .1) (c .before .before .before .before .before .before .before .before .before .before .before .before .if1 .taken) (c .before .before .before .before .before .before .before .before .before .before .before .before .before .before .before .before .before .before .pre .1 .1 .0) (c .before .before .before .before .before .before .before .before .before .before .push-string .ensures (rw (c .before .before .before .before .before .before .before .before .before .before .before .before .before .before .target .given .1) at (c .before .before .before .before .before .before .before .before .before .before .before .before .before .before .before .before .before .before .pre .1 .1 .1))) (c .before .before .before .before .before .before .push .ensures (now (c .before .before .before .before .before .before .before .before .before .before .before .before .before .before .before .before .before .before .args .file)) tt) (c .before .before .action .ensures (now (c .before .before .before .before .before .before .before .before .before .before .before .before .before .before .before .before .before .before .args .file)))
+returns c = declared (now (c .before .before .before .before .before .before .before .before .before .before .before .before .before .before .before .before .before .before .args .file)) (c .before .before .before .before .before .before .before .before .before .before .before .before .before .before .target .given .1) (c .before .before .before .before .before .before .before .before .before .before .before .before .if1 .taken) (c .before .before .before .before .before .before .before .before .before .before .before .before .before .before .before .before .before .before .pre .1 .1 .0) (c .before .before .before .before .before .before .before .before .before .before .push-string .ensures (rw (c .before .before .before .before .before .before .before .before .before .before .before .before .before .before .target .given .1) at (c .before .before .before .before .before .before .before .before .before .before .before .before .before .before .before .before .before .before .pre .1 .1 .1 .0))) (c .before .before .before .before .before .before .push .ensures (now (c .before .before .before .before .before .before .before .before .before .before .before .before .before .before .before .before .before .before .args .file)) tt) (c .before .before .action .ensures (now (c .before .before .before .before .before .before .before .before .before .before .before .before .before .before .before .before .before .before .args .file)))
 
 for-identifier-requires : tie.Need-for-identifier-requires
 for-identifier-requires c κs = search needs
 
 push-requires-2 : tie.Need-push-requires-2
-push-requires-2 c κs = c .before .before .before .before .for-identifier .ensures (rw (c .before .before .before .before .before .before .before .before .target .given .1) at (c .before .before .before .before .before .before .before .before .before .before .before .before .pre .1 .1 .1)) .fine
+push-requires-2 c κs = c .before .before .before .before .for-identifier .ensures (rw (c .before .before .before .before .before .before .before .before .target .given .1) at (c .before .before .before .before .before .before .before .before .before .before .before .before .pre .1 .1 .1 .0)) .fine
 
 set-value-requires : tie.Need-set-value-requires
 set-value-requires c κs = c .before .before .before .push2 .ensures [] tt .fine
@@ -49,7 +49,7 @@ same-length-2 : tie.Need-same-length-2
 same-length-2 c = search needs
 
 returns-2 : tie.Need-returns-2
-returns-2 c = variable (now (c .before .before .before .before .before .before .before .before .before .before .before .before .before .before .before .before .before .before .before .args .file)) (c .before .before .before .before .before .before .before .before .before .before .before .before .before .before .before .target .given .1) (c .before .before .before .before .before .before .before .before .before .before .before .before .before .if1 .left) (c .before .before .before .before .before .before .before .before .before .before .before .before .before .before .before .before .before .before .before .pre .1 .1 .0) (c .before .before .before .before .before .before .before .before .before .before .before .for-identifier .ensures (rw (c .before .before .before .before .before .before .before .before .before .before .before .before .before .before .before .target .given .1) at (c .before .before .before .before .before .before .before .before .before .before .before .before .before .before .before .before .before .before .before .pre .1 .1 .1))) (c .before .before .before .before .before .before .push2 .ensures (now (c .before .before .before .before .before .before .before .before .before .before .before .before .before .before .before .before .before .before .before .args .file)) tt) (c .before .before .set-value .ensures (now (c .before .before .before .before .before .before .before .before .before .before .before .before .before .before .before .before .before .before .before .args .file)))
+returns-2 c = variable (now (c .before .before .before .before .before .before .before .before .before .before .before .before .before .before .before .before .before .before .before .args .file)) (c .before .before .before .before .before .before .before .before .before .before .before .before .before .before .before .target .given .1) (c .before .before .before .before .before .before .before .before .before .before .before .before .before .if1 .left) (c .before .before .before .before .before .before .before .before .before .before .before .before .before .before .before .before .before .before .before .pre .1 .1 .0) (c .before .before .before .before .before .before .before .before .before .before .before .for-identifier .ensures (rw (c .before .before .before .before .before .before .before .before .before .before .before .before .before .before .before .target .given .1) at (c .before .before .before .before .before .before .before .before .before .before .before .before .before .before .before .before .before .before .before .pre .1 .1 .1 .0))) (c .before .before .before .before .before .before .push2 .ensures (now (c .before .before .before .before .before .before .before .before .before .before .before .before .before .before .before .before .before .before .before .args .file)) tt) (c .before .before .set-value .ensures (now (c .before .before .before .before .before .before .before .before .before .before .before .before .before .before .before .before .before .before .before .args .file)))
 
 same-length-3 : tie.Need-same-length-3
 same-length-3 c = search needs

@@ -12,13 +12,13 @@ for-constant-requires : tie.Need-for-constant-requires
 for-constant-requires c κs = search needs
 
 get-value-requires : tie.Need-get-value-requires
-get-value-requires c κs = c .before .before .before .before .for-constant .ensures (c .before .before .before .before .before .before .before .before .pre .1 .1 .0) (c .before .before .before .before .before .before .before .before .pre .1 .1 .1) .fine
+get-value-requires c κs = c .before .before .before .before .for-constant .ensures (c .before .before .before .before .before .before .before .before .pre .1 .1 .0) (c .before .before .before .before .before .before .before .before .pre .1 .1 .1 .0) .fine
 
 same-length : tie.Need-same-length
 same-length c = search needs
 
 returns : tie.Need-returns
-returns c = bound (for-constant (constantOver (stringAt (now (c .before .before .before .before .before .before .before .before .before .before .before .args .file)) (layoutOf (now (c .before .before .before .before .before .before .before .before .before .before .before .args .file)))) (c .before .before .before .before .before .before .before .before .before .before .before .args .c))) get-value (c .before .before .before .before .before .before .before .for-constant .ensures (c .before .before .before .before .before .before .before .before .before .before .before .pre .1 .1 .0) (c .before .before .before .before .before .before .before .before .before .before .before .pre .1 .1 .1)) (c .before .before .get-value .ensures (now (c .before .before .before .before .before .before .before .before .before .before .before .args .file)))
+returns c = bound (for-constant (constantOver (stringAt (now (c .before .before .before .before .before .before .before .before .before .before .before .args .file)) (layoutOf (now (c .before .before .before .before .before .before .before .before .before .before .before .args .file)))) (c .before .before .before .before .before .before .before .before .before .before .before .args .c))) get-value (c .before .before .before .before .before .before .before .for-constant .ensures (c .before .before .before .before .before .before .before .before .before .before .before .pre .1 .1 .0) (c .before .before .before .before .before .before .before .before .before .before .before .pre .1 .1 .1 .0)) (c .before .before .get-value .ensures (now (c .before .before .before .before .before .before .before .before .before .before .before .args .file)))
 
 pub read-constant-spec : {M : Type 1} → statement M
 read-constant-spec =

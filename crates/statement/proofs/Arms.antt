@@ -2,7 +2,7 @@
 use Prim.Native.Nat.{ℕ, suc, _+_, _-_, _≤_, _<_}
 use mathlib.Core.Path.{_≡_, refl, sym, ap, _∙_}
 use mathlib.Core.List.{List}
-use mathlib.Core.Bool.{Bool, true, false, not, _&&_, _||_}
+use mathlib.Core.Bool.{Bool, true, false, cond, not, _&&_, _||_}
 use mathlib.Core.Option.{some, none}
 use native.Mathlib.Omega.{arith}
 use lib.Dec.{T, ltb}
@@ -26,7 +26,7 @@ use Rattle.list_slice.specs.File.{textIn}
 use Rattle.codegen_state.specs.declared.CodeBuilder.{CodeBuilder}
 use Rattle.codegen_state.specs.View.{held, after}
 use Rattle.codegen_state.specs.Does.{Fine, Named, Does}
-use Rattle.codegen_state.proofs.Steps.{after-then, after-bind, after-size, carry-held, returned}
+use Rattle.codegen_state.proofs.Steps.{idle, after-done, after-then, after-bind, after-size, carry-held, returned}
 use Rattle.tree.specs.declared.Node.{Node}
 use Rattle.tree.specs.Trees.{trees, recOf, nodeOf, elementOf, meant}
 use Rattle.tree.specs.Within.{Within, IsNode, IsKid, IsList, meaningsAt, kidAt, listAt}
@@ -34,10 +34,14 @@ use Rattle.tree.proofs.Nodes.{is-node, trees-more, trees-none}
 use Rattle.tree.proofs.Meanings.{kid-zero}
 use Rattle.builder.specs.Labels.{elements-from}
 use Rattle.rows.specs.declared.Each.the-variants.{Expr, Discarded, Field, Hoisted, Unhoisted, Conditional, Element}
-use Rattle.rows.specs.Rows.{eachOf, select, callOf}
-use Rattle.codegen.specs.Walk.{Testing, Switching}
-use Rattle.codegen.proofs.Rows.{same-does, exprs-each, discarded-each, fields-each, hoisted-each, others-each, has-case-is, tests-each, elements-each}
-use Rattle.codegen.proofs.Laws.{rec-is, none-at, values-law, drag-law, condition-law, present-law, has-tests}
+use Rattle.rows.specs.Rows.{eachOf, any-hoisted, select, callOf}
+use Rattle.statement.proofs.Rows.{same-does, exprs-each, discarded-each, fields-each, hoisted-each, hoisted-none, others-each, has-case-is, tests-each, elements-each}
+use Rattle.statement.proofs.Laws.{Testing, Switching, rec-is, none-at, values-law, drag-law, condition-law, present-law, has-tests, has-no-tests}
+
+both-false : (d q : Bool) → (not d && not q) ≡ true → (d ≡ false) × (q ≡ false)
+both-false false false e = (refl, refl)
+both-false false true e = absurd (omega (arith, ap (λ (x : Bool). cond {A = ℕ} x 1 0) e))
+both-false true q e = absurd (omega (arith, ap (λ (x : Bool). cond {A = ℕ} x 1 0) e))
 
 module _ {F : List ℕ} (l : Layout) (p : Part) {b : CodeBuilder} {w : List ℕ} where
   pub statements-arm : {b1 b2 : CodeBuilder} {w1 w2 : List ℕ} →
@@ -49,6 +53,14 @@ module _ {F : List ℕ} (l : Layout) (p : Part) {b : CodeBuilder} {w : List ℕ}
       let e1 = same-does (gen-those true lp (meaningsAt F p)) (eachOf Hoisted lp 0 0 (meaningsAt F p)) (hoisted-each lp 0 0 (meaningsAt F p)) d1 in
       let e2 = same-does (gen-those false lp (meaningsAt F p)) (eachOf Unhoisted lp 0 0 (meaningsAt F p)) (others-each lp 0 0 (meaningsAt F p)) d2 in
       record { same = rw (after-then, ← e1 .same, e2 .same); fine = d2 .fine; named = λ n. d2 .named (d1 .named n) }
+
+  pub unhoisted-arm : {b1 : CodeBuilder} {w1 : List ℕ} →
+      (lp : Loop) →
+      {h : Bool} → h ≡ any-hoisted (meaningsAt F p) → h ≡ false →
+      Fine b w →
+      Does F (eachOf Unhoisted lp 0 0 (meaningsAt F p)) b w tt b1 w1 →
+      Does F (gen-statements lp (meaningsAt F p)) b w tt b1 w1
+  unhoisted-arm lp e h f d = statements-arm lp (same-does (eachOf Hoisted lp 0 0 (meaningsAt F p)) done (hoisted-none lp 0 0 (meaningsAt F p) (sym e ∙ h)) (idle f)) d
 
   pub field-arm : {b1 b2 : CodeBuilder} {w1 w2 : List ℕ} →
       {t : Node} → IsNode F l p t →
@@ -126,7 +138,7 @@ module _ {F : List ℕ} (l : Layout) (p : Part) {b : CodeBuilder} {w : List ℕ}
   switch-arm lp d1 d2 d3 =
       record { same = rw (after-bind, ← d1 .same, carry-held, after-bind, ← d2 .same, carry-held, d3 .same); fine = d3 .fine; named = λ n. d3 .named (d2 .named (d1 .named n)) }
 
-  pub cases-arm : {b1 b2 b3 b4 : CodeBuilder} {w1 w2 w3 w4 : List ℕ} →
+  cases-arm : {b1 b2 b3 b4 : CodeBuilder} {w1 w2 w3 w4 : List ℕ} →
       (lp inner : Loop) (end first default n : ℕ) →
       {es : Part} → IsList F l p 0 es →
       Switching F p end first default n →
@@ -139,6 +151,9 @@ module _ {F : List ℕ} (l : Layout) (p : Part) {b : CodeBuilder} {w : List ℕ}
   cases-arm lp inner end first default n {es = es} k-es s i d1 d2 d3 d4 =
       let e3 = same-does (gen-elements inner default (elements-from first (listAt F p 0))) (eachOf Element inner first default (meaningsAt F es)) (λ v. rw (k-es .means) (elements-each first inner default (meaningsAt F es) v)) d3 in
       record { same = rw (← s .default-is, ← i, after-then, ← d1 .same, after-then, ← d2 .same, after-then, ← e3 .same, d4 .same); fine = d4 .fine; named = λ n. d4 .named (d3 .named (d2 .named (d1 .named n))) }
+
+  pub no-tests-arm : (first n : ℕ) → Testing F p first n → n ≡ 0 → Fine b w → Does F (select (kidAt F p 1) (elements-from first (listAt F p 0))) b w tt b w
+  no-tests-arm first n s z f = rw (has-no-tests s z) (idle f)
 
   pub tests-arm : {b1 b2 b3 : CodeBuilder} {w1 w2 w3 : List ℕ} →
       (lp : Loop) (first d n : ℕ) →
@@ -232,7 +247,7 @@ module _ {F : List ℕ} (l : Layout) (p : Part) {b : CodeBuilder} {w : List ℕ}
       let e1 = same-does (all-discarded (meaningsAt F (t .before))) (eachOf Discarded lp 0 0 (meaningsAt F (t .before))) (discarded-each lp 0 0 (meaningsAt F (t .before))) d1 in
       record { same = rw (condition-law n z end, after-then, after-then, after-then, ← e1 .same, ← d2 .same, ← d3 .same, d4 .same); fine = d4 .fine; named = λ n. d4 .named (d3 .named (d2 .named (d1 .named n))) }
 
-  pub if-arm : {b1 b2 b3 b4 b5 : CodeBuilder} {w2 w3 w4 w5 : List ℕ} →
+  if-arm : {b1 b2 b3 b4 b5 : CodeBuilder} {w2 w3 w4 w5 : List ℕ} →
       (lp : Loop) →
       {condition : Part} → IsKid F l p 2 condition →
       Does F (create-label) b w (b .labels) b1 w →
@@ -244,7 +259,7 @@ module _ {F : List ℕ} (l : Layout) (p : Part) {b : CodeBuilder} {w : List ℕ}
   if-arm lp {condition = condition} k-condition d1 d2 d3 d4 d5 =
       record { same = rw (k-condition .meaning, after-bind, ← d1 .same, carry-held, after-then, ← d2 .same, after-then, ← d3 .same, after-then, ← d4 .same, d5 .same); fine = d5 .fine; named = λ n. d5 .named (d4 .named (d3 .named (d2 .named (d1 .named n)))) }
 
-  pub both-arm : {b1 b2 b3 b4 b5 b6 : CodeBuilder} {w2 w3 w4 w5 w6 : List ℕ} →
+  both-arm : {b1 b2 b3 b4 b5 b6 : CodeBuilder} {w2 w3 w4 w5 w6 : List ℕ} →
       (lp : Loop) →
       (end : ℕ) →
       {yes′ : Part} → IsKid F l p 1 yes′ →
@@ -258,7 +273,7 @@ module _ {F : List ℕ} (l : Layout) (p : Part) {b : CodeBuilder} {w : List ℕ}
   both-arm lp end {yes′ = yes′} k-yes′ d1 d2 d3 d4 d5 d6 =
       record { same = rw (k-yes′ .meaning, after-bind, ← d1 .same, carry-held, after-then, ← d2 .same, after-then, ← d3 .same, after-then, ← d4 .same, after-then, ← d5 .same, d6 .same); fine = d6 .fine; named = λ n. d6 .named (d5 .named (d4 .named (d3 .named (d2 .named (d1 .named n))))) }
 
-  pub one-arm : {b1 b2 : CodeBuilder} {w1 w2 : List ℕ} →
+  one-arm : {b1 b2 : CodeBuilder} {w1 w2 : List ℕ} →
       (lp : Loop) →
       (end : ℕ) →
       {yes′ : Part} → IsKid F l p 1 yes′ →
@@ -359,25 +374,40 @@ module _ {F : List ℕ} (l : Layout) (p : Part) {b : CodeBuilder} {w : List ℕ}
   minus-arm d1 d2 d3 =
       record { same = rw (after-then, after-then, ← d1 .same, ← d2 .same, d3 .same); fine = d3 .fine; named = λ n. d3 .named (d2 .named (d1 .named n)) }
 
-  pub adjust-arm : {b1 b2 b3 b4 b5 b6 : CodeBuilder} {w1 w2 w3 w4 w5 w6 : List ℕ} →
-      (o : Op) (affix : Affix) (discard : Bool) {a0 a : Access} →
-      Does F (when (not discard && not (is-prefix affix)) (kidAt F p 0 .for-expr >>= get-value)) b w tt b1 w1 →
-      Does F (kidAt F p 0 .for-expr) b1 w1 a0 b2 w2 →
-      Does F (kidAt F p 0 .for-expr) b2 w2 a b3 w3 →
-      Does F (get-value a) b3 w3 tt b4 w4 →
-      Does F (action o) b4 w4 tt b5 w5 →
-      Does F (assign-value (discard || not (is-prefix affix)) a) b5 w5 tt b6 w6 →
-      Does F (adjust-in-place (kidAt F p 0) o affix discard) b w tt b6 w6
-  adjust-arm o affix discard d1 d2 d3 d4 d5 d6 =
-      record { same = rw (after-then, ← d1 .same, after-bind, ← d2 .same, carry-held, after-bind, ← d3 .same, carry-held, after-then, ← d4 .same, after-then, ← d5 .same, d6 .same); fine = d6 .fine; named = λ n. d6 .named (d5 .named (d4 .named (d3 .named (d2 .named (d1 .named n))))) }
-
-  pub old-arm : {b1 b2 : CodeBuilder} {w1 w2 : List ℕ} →
+  old-arm : {b1 b2 : CodeBuilder} {w1 w2 : List ℕ} →
       {a : Access} →
       Does F (kidAt F p 0 .for-expr) b w a b1 w1 →
       Does F (get-value a) b1 w1 tt b2 w2 →
       Does F (kidAt F p 0 .for-expr >>= get-value) b w tt b2 w2
   old-arm d1 d2 =
       record { same = rw (after-bind, ← d1 .same, carry-held, d2 .same); fine = d2 .fine; named = λ n. d2 .named (d1 .named n) }
+
+  -- the old value is left, and then as if the value were discarded
+  pub kept-arm : {b1 b2 b3 : CodeBuilder} {w1 w2 w3 : List ℕ} →
+      (o : Op) (affix : Affix) (discard : Bool) {x : Bool} {a : Access} →
+      x ≡ (not discard && not (is-prefix affix)) → x ≡ true →
+      Does F (kidAt F p 0 .for-expr) b w a b1 w1 →
+      Does F (get-value a) b1 w1 tt b2 w2 →
+      Does F (adjust-in-place (kidAt F p 0) o affix true) b2 w2 tt b3 w3 →
+      Does F (adjust-in-place (kidAt F p 0) o affix discard) b w tt b3 w3
+  kept-arm o affix discard e t d1 d2 d3 =
+      let k = both-false discard (is-prefix affix) (sym e ∙ t) in
+      let old = old-arm d1 d2 in
+      let rest = rw (after-then, after-done) at (d3 .same) in
+      record { same = rw (k .0, k .1, after-then, ← old .same) rest; fine = d3 .fine; named = λ n. d3 .named (old .named n) }
+
+  pub adjust-arm : {b2 b3 b4 b5 b6 : CodeBuilder} {w2 w3 w4 w5 w6 : List ℕ} →
+      (o : Op) (affix : Affix) (discard : Bool) {x : Bool} {a0 a : Access} →
+      x ≡ (not discard && not (is-prefix affix)) → x ≡ false →
+      Fine b w →
+      Does F (kidAt F p 0 .for-expr) b w a0 b2 w2 →
+      Does F (kidAt F p 0 .for-expr) b2 w2 a b3 w3 →
+      Does F (get-value a) b3 w3 tt b4 w4 →
+      Does F (action o) b4 w4 tt b5 w5 →
+      Does F (assign-value (discard || not (is-prefix affix)) a) b5 w5 tt b6 w6 →
+      Does F (adjust-in-place (kidAt F p 0) o affix discard) b w tt b6 w6
+  adjust-arm o affix discard e t f d2 d3 d4 d5 d6 =
+      record { same = rw (← e, t, after-then, after-done, after-bind, ← d2 .same, carry-held, after-bind, ← d3 .same, carry-held, after-then, ← d4 .same, after-then, ← d5 .same, d6 .same); fine = d6 .fine; named = λ n. d6 .named (d5 .named (d4 .named (d3 .named (d2 .named n)))) }
 
   pub delete-arm : {b1 b2 : CodeBuilder} {w1 w2 : List ℕ} →
       {a : Access} →
@@ -549,3 +579,58 @@ module _ {F : List ℕ} (l : Layout) (p : Part) {b : CodeBuilder} {w : List ℕ}
       let e = same-does (exprs (meaningsAt F p)) (eachOf Expr lp 0 0 (meaningsAt F p)) (exprs-each lp 0 0 (meaningsAt F p)) d in
       let r = returned {F = F} {a = Object} (d .fine) in
       record { same = rw (after-then, ← e .same, r .same); fine = d .fine; named = d .named }
+
+-- constructs that end in others
+module _ {F : List ℕ} (l : Layout) (p : Part) {b : CodeBuilder} {w : List ℕ} where
+  -- a switch that has a Case or a Default
+  pub switch-cases-arm : {b1 b2 b3 b4 b5 b6 : CodeBuilder} {w3 w4 w5 w6 : List ℕ} →
+      (lp inner : Loop) (default n : ℕ) →
+      {es : Part} → IsList F l p 0 es →
+      Switching F p (b .labels) (b1 .labels) default n →
+      inner ≡ record { break-label = some (b .labels); continue-label = lp .continue-label } →
+      (has-case (elements-from (b1 .labels) (listAt F p 0)) || has-default (elements-from (b1 .labels) (listAt F p 0))) ≡ true →
+      Does F (create-label) b w (b .labels) b1 w →
+      Does F (with-labels (listAt F p 0)) b1 w (elements-from (b1 .labels) (listAt F p 0)) b2 w →
+      Does F (select (kidAt F p 1) (elements-from (b1 .labels) (listAt F p 0))) b2 w tt b3 w3 →
+      Does F (jump default) b3 w3 tt b4 w4 →
+      Does F (eachOf Element inner (b1 .labels) default (meaningsAt F es)) b4 w4 tt b5 w5 →
+      Does F (mark-label (b .labels)) b5 w5 tt b6 w6 →
+      Does F (gen-switch lp (kidAt F p 1) (listAt F p 0)) b w tt b6 w6
+  switch-cases-arm {b1 = b1} lp inner default n k-es s i h d1 d2 d3 d4 d5 d6 =
+      switch-arm l p lp d1 d2 (rw h (cases-arm l p lp inner (b .labels) (b1 .labels) default n k-es s i d3 d4 d5 d6))
+
+  pub if-both-arm : {b1 b2 b3 b4 b5 b6 b7 b8 b9 b10 : CodeBuilder} {w2 w3 w5 w6 w7 w8 w9 w10 : List ℕ} →
+      (lp : Loop) →
+      {condition : Part} → IsKid F l p 2 condition →
+      {yes′ : Part} → IsKid F l p 1 yes′ →
+      present (kidAt F p 0 .rec) ≡ true →
+      Does F (create-label) b w (b .labels) b1 w →
+      Does F (kidAt F condition 0 .gen-expr false) b1 w tt b2 w2 →
+      Does F (action Not) b2 w2 tt b3 w3 →
+      Does F (create-label) b3 w3 (b3 .labels) b4 w3 →
+      Does F (branch (b3 .labels)) b4 w3 tt b5 w5 →
+      Does F (kidAt F yes′ 0 .gen-statement lp) b5 w5 tt b6 w6 →
+      Does F (jump (b .labels)) b6 w6 tt b7 w7 →
+      Does F (mark-label (b3 .labels)) b7 w7 tt b8 w8 →
+      Does F (kidAt F p 0 .gen-statement lp) b8 w8 tt b9 w9 →
+      Does F (mark-label (b .labels)) b9 w9 tt b10 w10 →
+      Does F (gen-if lp (kidAt F p 2) (kidAt F p 1) (kidAt F p 0)) b w tt b10 w10
+  if-both-arm lp k-condition k-yes′ e d1 d2 d3 d4 d5 d6 d7 d8 d9 d10 =
+      let branches = both-arm l p lp (b .labels) k-yes′ d4 d5 d6 d7 d8 d9 in
+      if-arm l p lp k-condition d1 d2 d3 (rw e branches) d10
+
+  pub if-one-arm : {b1 b2 b3 b4 b5 b6 : CodeBuilder} {w2 w3 w4 w5 w6 : List ℕ} →
+      (lp : Loop) →
+      {condition : Part} → IsKid F l p 2 condition →
+      {yes′ : Part} → IsKid F l p 1 yes′ →
+      present (kidAt F p 0 .rec) ≡ false →
+      Does F (create-label) b w (b .labels) b1 w →
+      Does F (kidAt F condition 0 .gen-expr false) b1 w tt b2 w2 →
+      Does F (action Not) b2 w2 tt b3 w3 →
+      Does F (branch (b .labels)) b3 w3 tt b4 w4 →
+      Does F (kidAt F yes′ 0 .gen-statement lp) b4 w4 tt b5 w5 →
+      Does F (mark-label (b .labels)) b5 w5 tt b6 w6 →
+      Does F (gen-if lp (kidAt F p 2) (kidAt F p 1) (kidAt F p 0)) b w tt b6 w6
+  if-one-arm lp k-condition k-yes′ e d1 d2 d3 d4 d5 d6 =
+      let branches = one-arm l p lp (b .labels) k-yes′ d4 d5 in
+      if-arm l p lp k-condition d1 d2 d3 (rw e branches) d6

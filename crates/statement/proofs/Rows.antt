@@ -23,7 +23,7 @@ use Rattle.tree.specs.Trees.{labelled, cases, fromDefault, fromDefault-at, isLa
 use Rattle.builder.specs.Labels.{one-label, labels-of, with-number, elements-from}
 use Rattle.rows.specs.declared.Each.{Each}
 use Rattle.rows.specs.declared.Each.the-variants.{Expr, Discarded, Field, Hoisted, Unhoisted, Conditional, Element}
-use Rattle.rows.specs.Rows.{one-case, cases-of, conditional, switch-element, oneOf, eachOf}
+use Rattle.rows.specs.Rows.{one-case, cases-of, conditional, switch-element, oneOf, eachOf, any-hoisted}
 
 -- two steps that do the same from everywhere
 abbrev pub Same : Step → Step → Type 0
@@ -31,6 +31,10 @@ Same m n = (v : Held (Unit {0})) → after v m ≡ after v n
 
 pub same-does : {F : List ℕ} {b r : CodeBuilder} {w w′ : List ℕ} (m n : Step) → Same m n → Does F n b w tt r w′ → Does F m b w tt r w′
 same-does m n e d = record { same = d .same ∙ sym (e _); fine = d .fine; named = d .named }
+
+neither : (a b : Bool) → (a || b) ≡ false → (a ≡ false) × (b ≡ false)
+neither false b e = (refl, e)
+neither true b e = absurd (omega (arith, ap (λ (x : Bool). cond {A = ℕ} x 1 0) e))
 
 module _ (lp : Loop) (f d : ℕ) where
   pub exprs-each : (ms : Forest Meaning) → Same (exprs ms) (eachOf Expr lp f d ms)
@@ -67,6 +71,14 @@ module _ (lp : Loop) (f d : ℕ) where
   others-each Forest.none v = refl
   others-each (more ms m kids) v =
       rw (after-then v (gen-those false lp ms) (when (not (hoisted (m .rec) kids)) (m .gen-statement lp)), after-then v (eachOf Unhoisted lp f d ms) (when (not (hoisted (m .rec) kids)) (m .gen-statement lp)), others-each ms v)
+
+  -- a row in which no tree is hoisted
+  pub hoisted-none : (ms : Forest Meaning) → any-hoisted ms ≡ false → Same (eachOf Hoisted lp f d ms) done
+  unfolding eachOf any-hoisted
+  hoisted-none Forest.none e v = refl
+  hoisted-none (more ms m kids) e v =
+      let h = neither (hoisted (m .rec) kids) (any-hoisted ms) e in
+      rw (after-then v (eachOf Hoisted lp f d ms) (when (hoisted (m .rec) kids) (m .gen-statement lp)), h .0) (after-done (after v (eachOf Hoisted lp f d ms)) ∙ hoisted-none ms (h .1) v)
 
 -- a switch's elements
 

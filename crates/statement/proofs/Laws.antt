@@ -8,6 +8,7 @@ use native.Mathlib.Omega.{arith}
 use lib.Dec.{T, leb, ltb, eqb}
 use borrow.Author.Tests.{lt-ltb, ltb-true}
 use Rattle.hir.specs.Hir.{Str, Rec}
+use Rattle.hir.specs.declared.Affix.{Affix}
 use Rattle.hir.specs.Tree.{Forest, more}
 use Rattle.hir.specs.declared.ConstantKind.{ConstantKind}
 use Rattle.hir.specs.declared.ConstantKind.the-variants as code-constant
@@ -26,7 +27,7 @@ use Rattle.script.specs.Resolve.{resolved, exprOver, statementOver}
 use Rattle.lowering.specs.Builder.{M, Step, _>>_, done, when, action, plain-action, push, define-function, define-delta, name-delta}
 use Rattle.lowering.specs.Meaning.{Loop, Meaning, nth, list, present, element, shapeOf, literal}
 use Rattle.lowering.specs.Meaning as meaning
-use Rattle.lowering.specs.Statement.{meaning, meanings, expr, exprs, all-discarded, branch, has-case, has-default, no-loop, header, gen-statements, gen-values, gen-condition, bit, gen-start-drag, gen-expr, gen-statement, expr-of, statement-of, for-shape}
+use Rattle.lowering.specs.Statement.{meaning, meanings, expr, exprs, all-discarded, branch, has-case, has-default, no-loop, header, gen-statements, gen-values, gen-condition, default-label, is-prefix, bit, gen-start-drag, gen-expr, gen-statement, expr-of, statement-of, for-shape}
 use Rattle.lowering.specs.Access.{Access}
 use Rattle.lowering.proofs.Laws.{kid-law, list-law}
 use Rattle.list_slice.specs.File.{headerIn, paramsOf, namesString, namesFunction}
@@ -47,8 +48,7 @@ use Rattle.operators.specs.Shapes.{rootShape, constantLiteral, shapeLiteral}
 use Rattle.operators.proofs.Shapes.{shape-named}
 use Rattle.builder.specs.Labels.{labels-of, elements-from}
 use Rattle.rows.specs.Rows.{cases-of}
-use Rattle.codegen.specs.Walk.{Testing, Switching}
-use Rattle.codegen.proofs.Rows.{has-case-is, has-label-is, labels-is, cases-is, default-is}
+use Rattle.statement.proofs.Rows.{has-case-is, has-label-is, labels-is, cases-is, default-is}
 
 module _ {F : List ℕ} {l : Layout} {p : Part} {t : Node} (n : IsNode F l p t) where
   pub rec-is : kidAt F p 0 .rec ≡ recOf F (t .root)
@@ -115,6 +115,15 @@ module _ {F : List ℕ} {l : Layout} {p : Part} (i : Within F l p) (z : p .n ≡
       exprs (meaningsAt F p) >> (push (Integer 1) >> (push (Integer (bit lock)) >> (expr m >> plain-action (op StartDrag) (down 7))))
   unfolding meanings
   drag-law m lock = rw (trees-more F l p (is-node F l p i refl) (omega arith))
+
+-- of a switch: its number of cases, and room for its labels' numbers
+pub record Testing (F : List ℕ) (p : Part) (first n : ℕ) : Type 0 where
+  pub cases : n ≡ cases-of (listAt F p 0)
+  pub small : first + p .n < 0x1_0000_0000
+
+pub record Switching (F : List ℕ) (p : Part) (end first default n : ℕ) : Type 0 where
+  pub testing : Testing F p first n
+  pub default-is : default ≡ default-label end (elements-from first (listAt F p 0))
 
 -- what is absent generates nothing
 maybe : (r : Rec) (kids : Forest Meaning) (lp : Loop) → when (present r) (statement-of r kids lp) ≡ statement-of r kids lp
@@ -228,3 +237,16 @@ both-true true b h = refl
 pub number-less : (F : List ℕ) (i : ℕ) → T (namesFunction F i) → i < layoutOf F .count
 unfolding namesFunction
 number-less F i h = ltb-true i (layoutOf F .count) (both-true (ltb i (layoutOf F .count)) _ h)
+
+-- `adjust` with a value that is wanted passes its part on to itself with a value that is not
+pub rank-least : (d : Bool) → 3 ≤ cond d 3 4
+rank-least true = omega arith
+rank-least false = omega arith
+
+pub rank-most : (d : Bool) → cond d 3 4 ≤ 4
+rank-most true = omega arith
+rank-most false = omega arith
+
+pub rank-kept : (d : Bool) (affix : Affix) {x : Bool} → x ≡ (not d && not (is-prefix affix)) → x ≡ true → _≡_ {A = ℕ} (cond d 3 4) 4
+rank-kept false affix e t = refl
+rank-kept true affix e t = absurd (omega (arith, ap (λ (x : Bool). cond {A = ℕ} x 1 0) (sym t ∙ e)))

@@ -22,7 +22,7 @@ use Rattle.lowering.proofs.Laws.{width-law}
 use Rattle.codegen_state.specs.declared.CodeBuilder.{CodeBuilder}
 use Rattle.codegen_state.specs.View.{held, after}
 use Rattle.codegen_state.specs.Does.{Fine, Named, Does}
-use Rattle.codegen_state.proofs.Steps.{after-then, after-done}
+use Rattle.codegen_state.proofs.Steps.{after-then, after-done, stays}
 use Rattle.tree.specs.declared.Node.{Node}
 use Rattle.tree.specs.declared.Element.{Element}
 use Rattle.tree.specs.declared.Element.the-variants.{Case, Default, Statement}
@@ -34,8 +34,8 @@ use Rattle.tree.proofs.Counting.{element-is}
 use Rattle.builder.specs.Labels.{labels-of, one-label}
 use Rattle.rows.specs.declared.Each.{Each}
 use Rattle.rows.specs.Rows.{oneOf, eachOf, cases-of, one-case}
-use Rattle.codegen.proofs.Rows.{labels-is, cases-is, one-is}
-use Rattle.codegen.proofs.Laws.{none-at}
+use Rattle.statement.proofs.Rows.{labels-is, cases-is, one-is}
+use Rattle.statement.proofs.Laws.{none-at}
 
 -- the trees that start at record lo and end before record e
 abbrev pub upto : (lo e : ℕ) → Part
@@ -186,6 +186,23 @@ module _ (F : List ℕ) (l : Layout) (e : Each) (lp : Loop) (f d : ℕ) where
     pub scratch : length x ≡ length x0
     pub wide : last - lo ≤ length x0
 
+-- after a refusal nothing more is done, whatever trees are left
+module _ (F : List ℕ) (l : Layout) (e : Each) (lp : Loop) (f d lo : ℕ) (x : List ℕ) (b0 : CodeBuilder) (w0 : List ℕ) {b : CodeBuilder} {w : List ℕ} (h : b .refused ≡ 0 → ⊥) (fine : Fine b w) where
+  abbrev Upto : ℕ → Type 0
+  Upto q = held F (tt {0}) b w ≡ after (held F (tt {0}) b0 w0) (eachOf e lp f d (meaningsAt F (upto lo q)))
+
+  step-over : {q j : ℕ} → lo ≤ q → q < j → j - spanAt (rowsIn F) j (j - lo) ≡ q → Within F l (upto lo j) → Upto q → Upto j
+  step-over {q} {j} a u s i r =
+      let g = is-node F l (upto lo j) i refl in
+      let m : nodeOf F l (upto lo j) .before ≡ upto lo q = part-is _ q (q - lo) (g .end ∙ s) (g .n ∙ sub-sub j lo _ q a u s) in
+      let z : 0 < j - lo = omega arith in
+      rw (each-more F l (upto lo j) g z e lp f d, m, after-then, ← r) (stays {F = F} h fine .same)
+
+  stopped-chain : (top q last : ℕ) → lo ≤ q → Chain F l lo x top q last → Upto q → Upto last
+  unfolding Chain
+  stopped-chain zero q last a c r = rw (← c) r
+  stopped-chain (suc u) q last a c r = stopped-chain u (getD x u 0) last (omega (arith, c .0)) (c .4) (step-over a (c .0) (c .1) (c .3) r)
+
 module _ {F : List ℕ} {l : Layout} (e : Each) (lp : Loop) (f d : ℕ) where
   pub pop-holds : {x0 : List ℕ} {last lo : ℕ} {g0 : Part} {x : List ℕ} {g : Part} {top : ℕ} → PushInv F l x0 last lo g0 x g top → (w : List ℕ) (b : CodeBuilder) → Fine b w → g .n ≡ 0
       → PopInv F l e lp f d w x last lo b w x top b lo 0 0
@@ -255,6 +272,11 @@ module _ {F : List ℕ} {l : Layout} (e : Each) (lp : Loop) (f d : ℕ) where
     pop-again part h o n u s c q r =
         let z : top - 1 ≤ length x = omega (arith, i .room, i .low, i .wide, i .scratch) in
         pop-next (pop-top h) o n u s c q (same-len-mid (top - 1) (length x - (top - 1)) x part r) (λ k a. put-below (top - 1) (length x - (top - 1)) x part k a z)
+
+    pub pop-stopped : (b .refused ≡ 0 → ⊥) → (g : Part) → g .end ≡ last → g .n ≡ last - lo → Does F (eachOf e lp f d (meaningsAt F g)) b0 w0 tt b w
+    pop-stopped h g a c =
+        let m : upto lo last ≡ g = sym (part-is g last (last - lo) a c) in
+        record { same = rw m at (stopped-chain F l e lp f d lo x b0 w0 h (i .fine) top done last (i .low) (i .chain) (i .same)); fine = i .fine; named = i .named }
 
     pub pop-done : done ≡ last → (g : Part) → g .end ≡ last → g .n ≡ last - lo → Does F (eachOf e lp f d (meaningsAt F g)) b0 w0 tt b w
     pop-done z g a c =

@@ -1,5 +1,5 @@
 // Statements, expressions, accesses and function bodies (`statement.rs`). They call each other in a ring: a call goes to a part of fewer records, or to the
-// same part further down in this order: the constructs, gen_statements, each and args, one, for_expr and void, gen_expr and gen_statement.
+// same part further down in this order: the constructs, gen_statements, each and args, one, for_expr, gen_expr and gen_statement.
 // Each takes the file and its layout, the part whose last tree (or whose trees) it generates, the builder, the list slice, and a scratch slice.
 ghost use mathlib.Core.Path.{_≡_};
 ghost use Prim.Native.Nat.{ℕ, _+_, _≤_, _<_};
@@ -7,19 +7,18 @@ ghost use lib.Dec.{T};
 ghost use lib.ListN.{length};
 ghost use Rattle.pcode.specs.Pcode.{moved};
 ghost use Rattle.script_records.specs.Layout.{layoutOf, stringAt};
-ghost use Rattle.script.specs.Resolve.{targetOver};
-ghost use Rattle.lowering.specs.Builder.{when, define-function, define-delta};
-ghost use Rattle.lowering.specs.Meaning.{present, literal, shapeOf, width};
+ghost use Rattle.script.specs.Resolve.{conditionOver};
+ghost use Rattle.lowering.specs.Builder.{define-function, define-delta};
+ghost use Rattle.lowering.specs.Meaning.{literal, shapeOf, width};
 ghost use Rattle.lowering.specs.Operators.{plan};
 ghost use Rattle.lowering.specs.Statement as statement;
-ghost use Rattle.list_slice.specs.File.{textIn, namesString, namesFunction, headerIn};
+ghost use Rattle.list_slice.specs.File.{namesFunction, headerIn};
 ghost use Rattle.codegen_state.specs.Does.{Does};
 ghost use Rattle.tree.specs.Trees.{trees};
-ghost use Rattle.tree.specs.Within.{target-named, meaningsAt, kidAt, listAt};
-ghost use Rattle.builder.specs.Labels.{elements-from};
+ghost use Rattle.tree.specs.Within.{condition-named, meaningsAt, kidAt, listAt};
 ghost use Rattle.access.specs.Accesses.{accessOf};
-ghost use Rattle.rows.specs.Rows.{loopOf, eachOf, oneOf, select, callOf};
-ghost use Rattle.codegen.specs.Walk.{Walk, Testing, Switching, old-value};
+ghost use Rattle.rows.specs.Rows.{loopOf, eachOf, oneOf, callOf};
+ghost use Rattle.statement.specs.Walk.{Walk};
 use access::Access;
 use access::Accessed;
 use access::call;
@@ -48,7 +47,6 @@ use codegen_state::CodeBuilder;
 use constants::push_string;
 use hir::Affix;
 use hir::BinaryOperator;
-use hir::EnumeratorTarget;
 use hir::ExprKind;
 use hir::ForCondition;
 use hir::Record;
@@ -59,6 +57,7 @@ use leaves::bit_of;
 use leaves::default_label;
 use leaves::frame_of;
 use leaves::gen_target;
+use leaves::has_hoisted;
 use leaves::is_case;
 use leaves::is_hoisted;
 use leaves::is_labelled;
@@ -114,6 +113,9 @@ pub fn gen_statements(
     requires { ⌜ Walk (now file) l p b (now list) (length (now scratch)) ⌝ }
     ensures { λ r. ⌜ Does (now (file .entry)) (statement.gen-statements (loopOf lp) (meaningsAt (now (file .entry)) p)) b (now (list .entry)) tt r (now (list .exit)) ⌝ }
 {
+    if !has_hoisted(file, l, p) {
+        return each(file, l, p, b, list, scratch, Each::Unhoisted, lp, 0, 0);
+    }
     let b1 = each(file, l, p, b, list, scratch, Each::Hoisted, lp, 0, 0);
     each(file, l, p, b1, list, scratch, Each::Unhoisted, lp, 0, 0)
 }
@@ -155,6 +157,9 @@ fn each(
     let mut seen: u32 = 0;
     let mut cases: u32 = 0;
     while done != last {
+        if cur.refused != 0 {
+            return cur;
+        }
         top -= 1;
         let end = scratch[top];
         let part = Part { end, n: end - lo };
@@ -200,7 +205,10 @@ fn one(
 {
     match what {
         Each::Expr => gen_expr(file, l, p, b, list, scratch, false),
-        Each::Discarded => void(file, l, p, b, list, scratch),
+        Each::Discarded => {
+            let b1 = gen_expr(file, l, p, b, list, scratch, true);
+            truncate_stack(list, b1, b.size)
+        }
         Each::Field => {
             let t = node_at(file, l, p);
             let root = t.root;
@@ -271,27 +279,36 @@ fn gen_statement(
     let t = node_at(file, l, p);
     let root = t.root;
     let kids = t.children;
-    let exit = lp.exit;
-    let next = lp.next;
+    let break_to = lp.exit;
+    let continue_to = lp.next;
     match root {
         Record::Statement(kind) => match kind {
-            StatementKind::Declare(name) => local(file, l, kids, b, list, scratch, name),
-            StatementKind::Return => values(file, l, kids, b, list, scratch, Op::Return),
-            StatementKind::Throw => values(file, l, kids, b, list, scratch, Op::Throw),
-            StatementKind::Expr => void(file, l, kids, b, list, scratch),
+            StatementKind::Declare(name) => {
+                let t1 = node_at(file, l, kids);
+                let value = t1.root;
+                let b1 = push_string(file, l, list, b, name);
+                if is_present(value) {
+                    let b2 = gen_expr(file, l, kids, b1, list, scratch, false);
+                    return action(list, b2, Op::DefineLocal);
+                }
+                action(list, b1, Op::DefineLocal2)
+            }
+            StatementKind::Return => exit(file, l, kids, b, list, scratch, Op::Return),
+            StatementKind::Throw => exit(file, l, kids, b, list, scratch, Op::Throw),
+            StatementKind::Expr => {
+                let b1 = gen_expr(file, l, kids, b, list, scratch, true);
+                truncate_stack(list, b1, b.size)
+            }
             StatementKind::Block => {
                 let body = list_at(file, l, kids, 0);
                 let b1 = gen_statements(file, l, body, b, list, scratch, lp);
                 truncate_stack(list, b1, b.size)
             }
-            StatementKind::ForIn(condition) => match condition {
-                ForCondition::Enumerate(target) => for_in(file, l, kids, b, list, scratch, target),
-                ForCondition::Classic => gen_for_loop(file, l, kids, b, list, scratch),
-            },
+            StatementKind::ForIn(condition) => gen_for_loop(file, l, kids, b, list, scratch, condition),
             StatementKind::While => gen_while_loop(file, l, kids, b, list, scratch),
             StatementKind::If => gen_if(file, l, kids, b, list, scratch, lp),
-            StatementKind::Break => jump_to(list, b, exit),
-            StatementKind::Continue => jump_to(list, b, next),
+            StatementKind::Break => jump_to(list, b, break_to),
+            StatementKind::Continue => jump_to(list, b, continue_to),
             StatementKind::Switch => gen_switch(file, l, kids, b, list, scratch, lp),
         },
         Record::Expr(kind) => b,
@@ -305,31 +322,8 @@ fn gen_statement(
     }
 }
 
-fn local(
-    file: &[u8],
-    l: Layout,
-    p: Part,
-    b: CodeBuilder,
-    list: &mut [u32],
-    scratch: &mut [usize],
-    name: u32,
-) -> CodeBuilder
-    requires { ⌜ Walk (now file) l p b (now list) (length (now scratch)) ⌝ }
-    requires { ⌜ T (namesString (now file) name) ⌝ }
-    ensures { λ r. ⌜ Does (now (file .entry)) (statement.gen-declaration (textIn (now (file .entry)) name) (kidAt (now (file .entry)) p 0) (present (kidAt (now (file .entry)) p 0 .rec))) b (now (list .entry)) tt r (now (list .exit)) ⌝ }
-{
-    let t = node_at(file, l, p);
-    let root = t.root;
-    let b1 = push_string(file, l, list, b, name);
-    if is_present(root) {
-        let b2 = gen_expr(file, l, p, b1, list, scratch, false);
-        return action(list, b2, Op::DefineLocal);
-    }
-    action(list, b1, Op::DefineLocal2)
-}
-
 // Return and Throw.
-fn values(
+fn exit(
     file: &[u8],
     l: Layout,
     p: Part,
@@ -376,92 +370,20 @@ fn gen_switch(
         return b2;
     }
     let default = default_label(end, first, n);
-    cases(
-        file,
-        l,
-        p,
-        b2,
-        list,
-        scratch,
-        lp,
-        end,
-        first,
-        default,
-        n.cases,
-    )
-}
-
-fn cases(
-    file: &[u8],
-    l: Layout,
-    p: Part,
-    b: CodeBuilder,
-    list: &mut [u32],
-    scratch: &mut [usize],
-    lp: Loop,
-    end: u32,
-    first: u32,
-    default: u32,
-    n: u32,
-) -> CodeBuilder
-    requires { ⌜ Walk (now file) l p b (now list) (length (now scratch)) ⌝ }
-    requires { ⌜ Switching (now file) p end first default n ⌝ }
-    ensures { λ r. ⌜ Does (now (file .entry)) (statement.gen-cases (loopOf lp) (kidAt (now (file .entry)) p 1) end (elements-from first (listAt (now (file .entry)) p 0))) b (now (list .entry)) tt r (now (list .exit)) ⌝ }
-{
-    let elements = list_at(file, l, p, 0);
-    let b1 = tests(file, l, p, b, list, scratch, first, n);
-    let b2 = jump(list, b1, Label(default));
     let inner = with_exit(lp, end);
-    let b3 = each(
-        file,
-        l,
-        elements,
-        b2,
-        list,
-        scratch,
-        Each::Element,
-        inner,
-        first,
-        default,
-    );
-    mark_label(list, b3, Label(end))
-}
-
-// The target and the tests of a switch that has a Case.
-fn tests(
-    file: &[u8],
-    l: Layout,
-    p: Part,
-    b: CodeBuilder,
-    list: &mut [u32],
-    scratch: &mut [usize],
-    first: u32,
-    n: u32,
-) -> CodeBuilder
-    requires { ⌜ Walk (now file) l p b (now list) (length (now scratch)) ⌝ }
-    requires { ⌜ Testing (now file) p first n ⌝ }
-    ensures { λ r. ⌜ Does (now (file .entry)) (select (kidAt (now (file .entry)) p 1) (elements-from first (listAt (now (file .entry)) p 0))) b (now (list .entry)) tt r (now (list .exit)) ⌝ }
-{
-    if n == 0 {
-        return b;
+    if n.cases == 0 {
+        let b3 = jump(list, b2, Label(default));
+        let b4 = each(file, l, elements, b3, list, scratch, Each::Element, inner, first, default);
+        return mark_label(list, b4, Label(end));
     }
     let target = kid_at(file, l, p, 1);
-    let elements = list_at(file, l, p, 0);
-    let b1 = gen_expr(file, l, target, b, list, scratch, false);
-    let b2 = store_register(list, b1, 0);
+    let b3 = gen_expr(file, l, target, b2, list, scratch, false);
+    let b4 = store_register(list, b3, 0);
     let idle = no_loop();
-    each(
-        file,
-        l,
-        elements,
-        b2,
-        list,
-        scratch,
-        Each::Conditional,
-        idle,
-        first,
-        0,
-    )
+    let b5 = each(file, l, elements, b4, list, scratch, Each::Conditional, idle, first, 0);
+    let b6 = jump(list, b5, Label(default));
+    let b7 = each(file, l, elements, b6, list, scratch, Each::Element, inner, first, default);
+    mark_label(list, b7, Label(end))
 }
 
 fn gen_while_loop(
@@ -490,39 +412,6 @@ fn gen_while_loop(
     mark_label(list, b8, Label(end))
 }
 
-fn for_in(
-    file: &[u8],
-    l: Layout,
-    p: Part,
-    b: CodeBuilder,
-    list: &mut [u32],
-    scratch: &mut [usize],
-    target: EnumeratorTarget,
-) -> CodeBuilder
-    requires { ⌜ Walk (now file) l p b (now list) (length (now scratch)) ⌝ }
-    requires { ⌜ T (target-named (now file) target) ⌝ }
-    ensures { λ r. ⌜ Does (now (file .entry)) (statement.gen-enumerate (targetOver (stringAt (now (file .entry)) (layoutOf (now (file .entry)))) target) (kidAt (now (file .entry)) p 1) (kidAt (now (file .entry)) p 0)) b (now (list .entry)) tt r (now (list .exit)) ⌝ }
-{
-    let object = kid_at(file, l, p, 1);
-    let end = b.labels;
-    let b1 = create_label(b);
-    let next = b1.labels;
-    let b2 = create_label(b1);
-    let b3 = gen_expr(file, l, object, b2, list, scratch, false);
-    let b4 = action(list, b3, Op::Enumerate2);
-    let b5 = mark_label(list, b4, Label(next));
-    let b6 = store_register(list, b5, 0);
-    let b7 = push(list, b6, PushValue::Null);
-    let b8 = action(list, b7, Op::Equals2);
-    let b9 = branch(list, b8, Label(end));
-    let b10 = gen_target(file, l, list, b9, target);
-    let inner = loop_to(end, next);
-    let b11 = gen_statement(file, l, p, b10, list, scratch, inner);
-    let b12 = jump(list, b11, Label(next));
-    let b13 = truncate_stack(list, b12, b.size);
-    mark_label(list, b13, Label(end))
-}
-
 // A Break in `initialize` jumps to the end of the loop. What is absent generates nothing.
 fn gen_for_loop(
     file: &[u8],
@@ -531,40 +420,50 @@ fn gen_for_loop(
     b: CodeBuilder,
     list: &mut [u32],
     scratch: &mut [usize],
+    condition: ForCondition,
 ) -> CodeBuilder
     requires { ⌜ Walk (now file) l p b (now list) (length (now scratch)) ⌝ }
-    ensures { λ r. ⌜ Does (now (file .entry)) (statement.gen-classic (kidAt (now (file .entry)) p 3) (listAt (now (file .entry)) p 2) (listAt (now (file .entry)) p 1) (kidAt (now (file .entry)) p 0)) b (now (list .entry)) tt r (now (list .exit)) ⌝ }
+    requires { ⌜ T (condition-named (now file) condition) ⌝ }
+    ensures { λ r. ⌜ Does (now (file .entry)) (statement.gen-for-loop (conditionOver (stringAt (now (file .entry)) (layoutOf (now (file .entry)))) condition) (meaningsAt (now (file .entry)) p)) b (now (list .entry)) tt r (now (list .exit)) ⌝ }
 {
-    let initialize = kid_at(file, l, p, 3);
-    let condition = list_at(file, l, p, 2);
-    let update = list_at(file, l, p, 1);
     let end = b.labels;
     let b1 = create_label(b);
     let next = b1.labels;
     let b2 = create_label(b1);
     let inner = loop_to(end, next);
-    let b3 = gen_statement(file, l, initialize, b2, list, scratch, inner);
-    let start = b3.labels;
-    let b4 = create_label(b3);
-    let b5 = mark_label(list, b4, Label(start));
-    let b6 = ends(file, l, condition, b5, list, scratch, end);
-    let b7 = gen_statement(file, l, p, b6, list, scratch, inner);
-    let b8 = mark_label(list, b7, Label(next));
-    let b9 = each(
-        file,
-        l,
-        update,
-        b8,
-        list,
-        scratch,
-        Each::Discarded,
-        inner,
-        0,
-        0,
-    );
-    let b10 = jump(list, b9, Label(start));
-    let b11 = truncate_stack(list, b10, b.size);
-    mark_label(list, b11, Label(end))
+    match condition {
+        ForCondition::Enumerate(target) => {
+            let object = kid_at(file, l, p, 1);
+            let mut cur = gen_expr(file, l, object, b2, list, scratch, false);
+            cur = action(list, cur, Op::Enumerate2);
+            cur = mark_label(list, cur, Label(next));
+            cur = store_register(list, cur, 0);
+            cur = push(list, cur, PushValue::Null);
+            cur = action(list, cur, Op::Equals2);
+            cur = branch(list, cur, Label(end));
+            cur = gen_target(file, l, list, cur, target);
+            cur = gen_statement(file, l, p, cur, list, scratch, inner);
+            cur = jump(list, cur, Label(next));
+            cur = truncate_stack(list, cur, b.size);
+            mark_label(list, cur, Label(end))
+        }
+        ForCondition::Classic => {
+            let initialize = kid_at(file, l, p, 3);
+            let conditions = list_at(file, l, p, 2);
+            let update = list_at(file, l, p, 1);
+            let b3 = gen_statement(file, l, initialize, b2, list, scratch, inner);
+            let start = b3.labels;
+            let mut cur = create_label(b3);
+            cur = mark_label(list, cur, Label(start));
+            cur = ends(file, l, conditions, cur, list, scratch, end);
+            cur = gen_statement(file, l, p, cur, list, scratch, inner);
+            cur = mark_label(list, cur, Label(next));
+            cur = each(file, l, update, cur, list, scratch, Each::Discarded, inner, 0, 0);
+            cur = jump(list, cur, Label(start));
+            cur = truncate_stack(list, cur, b.size);
+            mark_label(list, cur, Label(end))
+        }
+    }
 }
 
 // The last condition decides.
@@ -616,58 +515,26 @@ fn gen_if(
     ensures { λ r. ⌜ Does (now (file .entry)) (statement.gen-if (loopOf lp) (kidAt (now (file .entry)) p 2) (kidAt (now (file .entry)) p 1) (kidAt (now (file .entry)) p 0)) b (now (list .entry)) tt r (now (list .exit)) ⌝ }
 {
     let condition = kid_at(file, l, p, 2);
+    let yes = kid_at(file, l, p, 1);
+    let t = node_at(file, l, p);
+    let root = t.root;
     let end = b.labels;
     let b1 = create_label(b);
     let b2 = gen_expr(file, l, condition, b1, list, scratch, false);
     let b3 = action(list, b2, Op::Not);
-    let b4 = arms(file, l, p, b3, list, scratch, lp, end);
-    mark_label(list, b4, Label(end))
-}
-
-// The two branches of an `if`.
-fn arms(
-    file: &[u8],
-    l: Layout,
-    p: Part,
-    b: CodeBuilder,
-    list: &mut [u32],
-    scratch: &mut [usize],
-    lp: Loop,
-    end: u32,
-) -> CodeBuilder
-    requires { ⌜ Walk (now file) l p b (now list) (length (now scratch)) ⌝ }
-    ensures { λ r. ⌜ Does (now (file .entry)) (statement.gen-branches (loopOf lp) end (kidAt (now (file .entry)) p 1) (kidAt (now (file .entry)) p 0) (present (kidAt (now (file .entry)) p 0 .rec))) b (now (list .entry)) tt r (now (list .exit)) ⌝ }
-{
-    let yes = kid_at(file, l, p, 1);
-    let t = node_at(file, l, p);
-    let root = t.root;
     if is_present(root) {
-        let no = b.labels;
-        let b1 = create_label(b);
-        let b2 = branch(list, b1, Label(no));
-        let b3 = gen_statement(file, l, yes, b2, list, scratch, lp);
-        let b4 = jump(list, b3, Label(end));
-        let b5 = mark_label(list, b4, Label(no));
-        return gen_statement(file, l, p, b5, list, scratch, lp);
+        let no = b3.labels;
+        let b4 = create_label(b3);
+        let b5 = branch(list, b4, Label(no));
+        let b6 = gen_statement(file, l, yes, b5, list, scratch, lp);
+        let b7 = jump(list, b6, Label(end));
+        let b8 = mark_label(list, b7, Label(no));
+        let b9 = gen_statement(file, l, p, b8, list, scratch, lp);
+        return mark_label(list, b9, Label(end));
     }
-    let b1 = branch(list, b, Label(end));
-    gen_statement(file, l, yes, b1, list, scratch, lp)
-}
-
-// An expression for its effect.
-fn void(
-    file: &[u8],
-    l: Layout,
-    p: Part,
-    b: CodeBuilder,
-    list: &mut [u32],
-    scratch: &mut [usize],
-) -> CodeBuilder
-    requires { ⌜ Walk (now file) l p b (now list) (length (now scratch)) ⌝ }
-    ensures { λ r. ⌜ Does (now (file .entry)) (statement.discarded (kidAt (now (file .entry)) p 0)) b (now (list .entry)) tt r (now (list .exit)) ⌝ }
-{
-    let b1 = gen_expr(file, l, p, b, list, scratch, true);
-    truncate_stack(list, b1, b.size)
+    let b4 = branch(list, b3, Label(end));
+    let b5 = gen_statement(file, l, yes, b4, list, scratch, lp);
+    mark_label(list, b5, Label(end))
 }
 
 fn gen_expr(
@@ -701,9 +568,25 @@ fn gen_expr(
             ExprKind::Unary(o) => gen_unary_op(file, l, kids, b, list, scratch, discard, o),
             ExprKind::Call => gen_call(file, l, kids, b, list, scratch, false),
             ExprKind::New => gen_call(file, l, kids, b, list, scratch, true),
-            ExprKind::DuplicateMovieClip => copy(file, l, kids, b, list, scratch),
+            ExprKind::DuplicateMovieClip => {
+                let source = kid_at(file, l, kids, 2);
+                let target = kid_at(file, l, kids, 1);
+                let b1 = gen_expr(file, l, source, b, list, scratch, false);
+                let b2 = gen_expr(file, l, target, b1, list, scratch, false);
+                let b3 = push(list, b2, PushValue::Integer(16384));
+                let b4 = gen_expr(file, l, kids, b3, list, scratch, false);
+                let b5 = action(list, b4, Op::Add2);
+                action(list, b5, Op::CloneSprite)
+            }
             ExprKind::Ternary => gen_ternary(file, l, kids, b, list, scratch),
-            ExprKind::InitObject => object(file, l, kids, b, list, scratch),
+            ExprKind::InitObject => {
+                let es = list_at(file, l, kids, 0);
+                let n = counts_of(file, l, es);
+                let idle = no_loop();
+                let b1 = each(file, l, es, b, list, scratch, Each::Field, idle, 0, 0);
+                let b2 = push_count(list, b1, n.trees);
+                action_down(list, b2, Op::InitObject, n.trees + n.trees)
+            }
             ExprKind::InitArray => {
                 let es = list_at(file, l, kids, 0);
                 let n = counts_of(file, l, es);
@@ -939,7 +822,7 @@ fn gen_unary_op(
     }
 }
 
-// A postfix operator leaves the old value, a prefix operator the new one.
+// A postfix operator leaves the old value, and the rest is as if its value were discarded; a prefix operator leaves the new one.
 fn adjust(
     file: &[u8],
     l: Layout,
@@ -954,38 +837,22 @@ fn adjust(
     requires { ⌜ Walk (now file) l p b (now list) (length (now scratch)) ⌝ }
     ensures { λ r. ⌜ Does (now (file .entry)) (statement.adjust-in-place (kidAt (now (file .entry)) p 0) o affix discard) b (now (list .entry)) tt r (now (list .exit)) ⌝ }
 {
-    let kept = keeps_old(affix, discard);
-    let alone = leaves_none(affix, discard);
-    let b1 = old(file, l, p, b, list, scratch, kept);
-    let a = for_expr(file, l, p, b1, list, scratch);
-    let b2 = a.b;
-    let again = for_expr(file, l, p, b2, list, scratch);
-    let b3 = again.b;
-    let access = again.access;
-    let b4 = get_value(list, b3, access);
-    let b5 = action(list, b4, o);
-    assign_value(list, b5, alone, access)
-}
-
-fn old(
-    file: &[u8],
-    l: Layout,
-    p: Part,
-    b: CodeBuilder,
-    list: &mut [u32],
-    scratch: &mut [usize],
-    kept: bool,
-) -> CodeBuilder
-    requires { ⌜ Walk (now file) l p b (now list) (length (now scratch)) ⌝ }
-    ensures { λ r. ⌜ Does (now (file .entry)) (old-value kept (kidAt (now (file .entry)) p 0)) b (now (list .entry)) tt r (now (list .exit)) ⌝ }
-{
-    if !kept {
-        return b;
+    if keeps_old(affix, discard) {
+        let old = for_expr(file, l, p, b, list, scratch);
+        let b1 = old.b;
+        let before = old.access;
+        let b2 = get_value(list, b1, before);
+        return adjust(file, l, p, b2, list, scratch, o, affix, true);
     }
+    let alone = leaves_none(affix, discard);
     let a = for_expr(file, l, p, b, list, scratch);
     let b1 = a.b;
-    let access = a.access;
-    get_value(list, b1, access)
+    let again = for_expr(file, l, p, b1, list, scratch);
+    let b2 = again.b;
+    let access = again.access;
+    let b3 = get_value(list, b2, access);
+    let b4 = action(list, b3, o);
+    assign_value(list, b4, alone, access)
 }
 
 // The no branch comes first.
@@ -1065,46 +932,6 @@ fn args(
         left = before;
     }
     push_count(list, cur, n)
-}
-
-fn object(
-    file: &[u8],
-    l: Layout,
-    p: Part,
-    b: CodeBuilder,
-    list: &mut [u32],
-    scratch: &mut [usize],
-) -> CodeBuilder
-    requires { ⌜ Walk (now file) l p b (now list) (length (now scratch)) ⌝ }
-    ensures { λ r. ⌜ Does (now (file .entry)) (statement.gen-init-object (listAt (now (file .entry)) p 0)) b (now (list .entry)) tt r (now (list .exit)) ⌝ }
-{
-    let es = list_at(file, l, p, 0);
-    let n = counts_of(file, l, es);
-    let idle = no_loop();
-    let b1 = each(file, l, es, b, list, scratch, Each::Field, idle, 0, 0);
-    let b2 = push_count(list, b1, n.trees);
-    action_down(list, b2, Op::InitObject, n.trees + n.trees)
-}
-
-fn copy(
-    file: &[u8],
-    l: Layout,
-    p: Part,
-    b: CodeBuilder,
-    list: &mut [u32],
-    scratch: &mut [usize],
-) -> CodeBuilder
-    requires { ⌜ Walk (now file) l p b (now list) (length (now scratch)) ⌝ }
-    ensures { λ r. ⌜ Does (now (file .entry)) (statement.gen-duplicate (kidAt (now (file .entry)) p 2) (kidAt (now (file .entry)) p 1) (kidAt (now (file .entry)) p 0)) b (now (list .entry)) tt r (now (list .exit)) ⌝ }
-{
-    let source = kid_at(file, l, p, 2);
-    let target = kid_at(file, l, p, 1);
-    let b1 = gen_expr(file, l, source, b, list, scratch, false);
-    let b2 = gen_expr(file, l, target, b1, list, scratch, false);
-    let b3 = push(list, b2, PushValue::Integer(16384));
-    let b4 = gen_expr(file, l, p, b3, list, scratch, false);
-    let b5 = action(list, b4, Op::Add2);
-    action(list, b5, Op::CloneSprite)
 }
 
 fn goto(
