@@ -13,13 +13,13 @@ ghost use Rattle.as2_codegen.specs.Lowering.{Lowers};
 ghost use Rattle.as2_codegen.specs.Begin.{Begun, statementsPart, Generating};
 use builder::entries::put;
 use builder::finish::into_actions;
-use statement::gen_statements;
 use codegen_state::CodeBuilder;
 use rows::no_loop;
 use script::Answer;
 use script_records::layout::Layout;
 use script_records::layout::layout_of;
 use script_records::part::Part;
+use statement::gen_statements;
 
 // The lists stand in the list slice, or the refusal.
 pub enum Lowered {

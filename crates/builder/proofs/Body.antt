@@ -41,7 +41,6 @@ begun-fine b w f = record {
   no-label = f .no-label;
   no-end = f .no-end;
   no-string = f .no-string;
-  no-rest = f .no-rest;
   written-low = f .written-low;
   written-top = f .written-top;
   later = f .later;
@@ -49,7 +48,7 @@ begun-fine b w f = record {
 }
 
 pub begun-named : (F : List ℕ) (b : CodeBuilder) (w : List ℕ) → Named F b w → Named F (begun b) w
-begun-named F b w n = record { finished = n .finished; unfinished = n .unfinished; strings = n .strings }
+begun-named F b w n = record { finished = n .finished; unfinished = n .unfinished; strings = n .strings; indexed = n .indexed }
 
 pub take-run : (w : List ℕ) (i n k : ℕ) → k ≤ n → take k (run w i n) ≡ run w i k
 unfolding run

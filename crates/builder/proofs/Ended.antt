@@ -21,6 +21,7 @@ use Rattle.codegen_state.specs.declared.CodeBuilder.{CodeBuilder}
 use Rattle.codegen_state.specs.View.{gather, labelsOf, endsOf, poolOf, openOf, state, waiting, Held, holds, shut, good}
 use Rattle.codegen_state.specs.Does.{Begins, Fine, Named, Ends}
 use Rattle.codegen_state.proofs.Steps.{held-stopped, held-holds}
+use Rattle.codegen_state.proofs.Index.{indexed-same}
 use Rattle.builder.specs.Entries.{refusedWith}
 use Rattle.builder.specs.Move.{Moved}
 use Rattle.builder.proofs.Leaves.{refuses, room-action, run-same, cut-same, gather-more}
@@ -217,7 +218,6 @@ module _ (w0 : List ℕ) (b : CodeBuilder) (w : List ℕ) (low base size number 
     no-label = λ j p q. rw (ended-word (12288 + j) (omega arith) (λ e. omega arith)) (f .no-label j p q);
     no-end = λ j p q. rw (ended-word (13312 + j) (omega arith) (λ e. omega arith)) (f .no-end j (omega arith) q);
     no-string = λ j p q. rw (ended-word (14336 + j) (omega arith) (λ e. omega (arith, lists-room))) (f .no-string j p q);
-    no-rest = λ j p. rw (ended-word j (omega arith) (λ e. omega (arith, lists-room))) (f .no-rest j p);
     written-low = each-low (λ (e : Entry). entryOf (pieceOf e) ≡ e) (f .written-low) (λ j p q. f .written-top j p (omega arith));
     written-top = each-top (λ (e : Entry). entryOf (pieceOf e) ≡ e) (ap entryOf (piece-back (piece.function (b .lists + 1) number))) 4096 (omega arith)
         (λ j p q. f .written-top j (omega (arith, f .base)) q);
@@ -265,6 +265,7 @@ module _ (w0 : List ℕ) (b : CodeBuilder) (w : List ℕ) (low base size number 
       finished = each-low (λ (e : Entry). T (good F (pieceOf e))) (n .finished) (λ j p q. n .unfinished j p (omega arith));
       unfinished = each-top (λ (e : Entry). T (good F (pieceOf e))) own 4095 (omega arith) (λ j p q. n .unfinished j (omega (arith, f .base)) q);
       strings = λ j p. rw (ended-word (14336 + j) (omega arith) (λ e. omega (arith, lists-room))) (n .strings j p);
+      indexed = indexed-same (λ j p. ended-word j (omega arith) (λ e. omega (arith, lists-room))) (n .indexed);
     }
       where
         own : T (good F (pieceOf (entry 256 (b .lists + 1) number)))

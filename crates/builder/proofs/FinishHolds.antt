@@ -1,5 +1,5 @@
 -- The top list has joined the finished ones, and each label has its word: the words hold the script's lists.
-use Prim.Native.Nat.{ℕ, zero, suc, _+_, _-_, _≤_, _<_}
+use Prim.Native.Nat.{ℕ, zero, suc, _+_, _-_, _*_, _≤_, _<_}
 use mathlib.Core.Path.{_≡_, refl, sym, ap, _∙_}
 use mathlib.Core.Logic.{_≢_}
 use mathlib.Core.List.{List, [], _∷_, _++_, map, reverse}
@@ -31,10 +31,10 @@ use Rattle.codegen_state.specs.View.{gather, endsOf, poolOf, openOf, state, goo
 use Rattle.codegen_state.specs.Does.{Written, Fine, Named}
 use Rattle.builder.specs.Entries.{put3}
 use Rattle.builder.specs.Move.{Moved}
-use Rattle.builder.specs.Places.{Cleared, Located, listAt, listsAt, Standing, Finished, finished}
+use Rattle.builder.specs.Places.{Copied, Cleared, Located, listAt, listsAt, Standing, Finished, finished}
 use Rattle.builder.proofs.Leaves.{cut-same}
 use Rattle.builder.proofs.Words.{length-put, getD-put, entry-same, entry-other, entry-side}
-use Rattle.builder.proofs.Move.{same-part, side-word, part-more}
+use Rattle.builder.proofs.Move.{same-inside, side-word, part-more}
 use Rattle.builder.proofs.Ended.{rising-snoc, cut-snoc, run-moved, run-snoc}
 use Rattle.builder.proofs.FinishWords.{same-entries, located-append}
 use Rattle.builder.proofs.FinishReads.{cut-written, no-counts, all-named, run-reads, joined-map, cut-reads, pool-first, all-both, all-taken}
@@ -88,8 +88,8 @@ module _ (w0 : List ℕ) (b : CodeBuilder) (f : Fine b w0) (bottom : b .base ≡
   inside = omega (arith, low-is, f .low, f .bottom)
 
   -- words with the moved list, the pool's count, and the list's end
-  module _ (count : ℕ) (w : List ℕ) (long : length w ≡ length w0) (entries : (j : ℕ) → j ≢ low - 1 → j < 4096 → entryAt w j ≡ entryAt w1 j)
-      (own : entryAt w (low - 1) ≡ entry 0x88 count 0) (behind : (j : ℕ) → 13312 ≤ j → getD w j 0 ≡ getD (set w1 (13312 + b .lists) low) j 0) where
+  module _ (count : ℕ) (w : List ℕ) (long : 16384 ≤ length w) (entries : (j : ℕ) → j ≢ low - 1 → j < 4096 → entryAt w j ≡ entryAt w1 j)
+      (own : entryAt w (low - 1) ≡ entry 0x88 count 0) (behind : (j : ℕ) → 13312 ≤ j → j < 16384 → getD w j 0 ≡ getD (set w1 (13312 + b .lists) low) j 0) where
     below : (j : ℕ) → j < b .low → entryAt w j ≡ entryAt w0 j
     below j h = entries j (λ e. omega (arith, low-is, f .bottom)) (omega (arith, f .low, f .bottom)) ∙ m .below j h
 
@@ -99,8 +99,8 @@ module _ (w0 : List ℕ) (b : CodeBuilder) (f : Fine b w0) (bottom : b .base ≡
     gap : (j : ℕ) → low ≤ j → j < 4096 → entryAt w j ≡ entry 0 0 0
     gap j h k = entries j (λ e. omega (arith, low-is, f .bottom)) k ∙ m .gap j h k
 
-    word : (j : ℕ) → 13312 ≤ j → j ≢ 13312 + b .lists → getD w j 0 ≡ getD w0 j 0
-    word j h q = behind j h ∙ getD-set-other w1 (13312 + b .lists) j low 0 q ∙ side-word w0 w1 (m .side) j (omega arith)
+    word : (j : ℕ) → 13312 ≤ j → j < 16384 → j ≢ 13312 + b .lists → getD w j 0 ≡ getD w0 j 0
+    word j h k q = behind j h k ∙ getD-set-other w1 (13312 + b .lists) j low 0 q ∙ side-word w0 w1 (m .side) j (omega arith)
 
     each : (P : Entry → Type 0) → ((j : ℕ) → j < b .low → P (entryAt w0 j)) → ((j : ℕ) → b .top ≤ j → j < 4095 → P (entryAt w0 j)) → (j : ℕ) → j < low - 1 → P (entryAt w j)
     each P p q j h = at (ltb j (b .low)) refl
@@ -130,14 +130,14 @@ module _ (w0 : List ℕ) (b : CodeBuilder) (f : Fine b w0) (bottom : b .base ≡
     lists-few = omega (arith, f .lists, f .actions)
 
     pub ends-before : take (b .lists) (drop 13312 w) ≡ endsOf b w0
-    ends-before = same-part w0 w 13312 (b .lists) long (λ j k. word (13312 + j) (omega arith) (λ e. omega arith))
+    ends-before = same-inside w0 w 13312 (b .lists) (omega (arith, f .long, lists-few)) (omega (arith, lists-few)) (λ j k. word (13312 + j) (omega arith) (omega (arith, lists-few)) (λ e. omega arith))
 
     ends-are : ends ≡ endsOf b w0 ++ (low ∷ [])
     ends-are =
         rw (
-          part-more w 13312 (b .lists) (omega (arith, long, f .long, lists-few)),
+          part-more w 13312 (b .lists) (omega (arith, lists-few)),
           ends-before,
-          behind (13312 + b .lists) (omega arith),
+          behind (13312 + b .lists) (omega arith) (omega (arith, lists-few)),
           getD-set-same w1 (13312 + b .lists) low 0 (omega (arith, m .long, f .long, lists-few)),
         )
 
@@ -161,7 +161,7 @@ module _ (w0 : List ℕ) (b : CodeBuilder) (f : Fine b w0) (bottom : b .base ≡
 
     pub top-standing : Standing w (b .low) low
     top-standing = record {
-      long = rw long (f .long);
+      long = long;
       whole = omega (arith, low-is);
       cap = omega (arith, low-is, f .low, f .bottom);
       written = λ j p q. written j q;
@@ -171,7 +171,7 @@ module _ (w0 : List ℕ) (b : CodeBuilder) (f : Fine b w0) (bottom : b .base ≡
     lists-standing = record {
       low = b .low;
       standing = record {
-        long = rw long (f .long);
+        long = long;
         whole = omega arith;
         cap = omega (arith, f .low, f .bottom);
         written = λ j p q. written j (omega (arith, low-is));
@@ -202,26 +202,28 @@ module _ (w0 : List ℕ) (b : CodeBuilder) (f : Fine b w0) (bottom : b .base ≡
       unfolding state
       final-lists = rw state-top
 
-      module _ (whole : count ≡ b .constants) (n : Named F b w0) (labels : (l : ℕ) → l < 1024 → getD w (12288 + l) 0 ≡ labelWord (finished (state F b w0)) l) where
+      module _ (whole : count ≡ b .constants) (n : Named F b w0) (labels : (l : ℕ) → l < 1024 → getD w (12288 + l) 0 ≡ labelWord (finished (state F b w0)) l)
+          (rest : (j : ℕ) → 16384 ≤ j → getD w j 0 ≡ 0) where
         pool-same : poolOf b w ≡ poolOf b w0
-        pool-same = same-part w0 w 14336 (b .constants) long (λ j k. word (14336 + j) (omega arith) (λ e. omega (arith, lists-few)))
+        pool-same = same-inside w0 w 14336 (b .constants) (omega (arith, f .long, f .constants, f .values)) (omega (arith, f .constants, f .values))
+            (λ j k. word (14336 + j) (omega arith) (omega (arith, f .constants, f .values)) (λ e. omega (arith, lists-few)))
 
         pool-length : length (poolOf b w) ≡ b .constants
-        pool-length = simp (length-take, length-drop) (omega (arith, long, f .long, f .constants, f .values))
+        pool-length = simp (length-take, length-drop) (omega (arith, long, f .constants, f .values))
 
         filled : Filled limits01 (finished (state F b w0)) w ends (poolOf b w) low
         filled = record {
-          room = rw long (f .long);
+          room = long;
           rising = rising;
           below = omega (arith, low-is, f .low, f .bottom);
           gap = gap;
-          labels-are = table w 12288 1024 (labelWords 1024 (finished (state F b w0))) (omega (arith, long, f .long))
+          labels-are = table w 12288 1024 (labelWords 1024 (finished (state F b w0))) (omega (arith, long))
               (λ j h. labels j h ∙ sym (label-word-at (finished (state F b w0)) 1024 j h));
-          ends-are = part-table w 13312 (b .lists + 1) 1024 (omega (arith, long, f .long))
-              (λ j p q. word (13312 + j) (omega arith) (λ e. omega arith) ∙ f .no-end j (omega arith) q);
-          pool-is = part-table w 14336 (b .constants) 2048 (omega (arith, long, f .long))
-              (λ j p q. word (14336 + j) (omega arith) (λ e. omega (arith, lists-few)) ∙ f .no-string j p q);
-          rest-is = zeros-from w 16384 (omega (arith, long, f .long)) (λ j p. word j (omega arith) (λ e. omega (arith, lists-few)) ∙ f .no-rest j p);
+          ends-are = part-table w 13312 (b .lists + 1) 1024 (omega (arith, long))
+              (λ j p q. word (13312 + j) (omega arith) (omega arith) (λ e. omega arith) ∙ f .no-end j (omega arith) q);
+          pool-is = part-table w 14336 (b .constants) 2048 (omega (arith, long))
+              (λ j p q. word (14336 + j) (omega arith) (omega arith) (λ e. omega (arith, lists-few)) ∙ f .no-string j p q);
+          rest-is = zeros-from w 16384 long rest;
           ends-fit = omega (arith, length-take (b .lists + 1) (drop 13312 w), lists-few);
           pool-fits = omega (arith, pool-length, f .constants, f .values);
           last-filled = rw all-lists (last-filled (cut w0 0 (endsOf b w0)) (own-entries ++ (entry 0x88 count 0 ∷ [])) (rw length-append (omega arith)));
@@ -267,7 +269,7 @@ module _ (w0 : List ℕ) (b : CodeBuilder) (f : Fine b w0) (bottom : b .base ≡
         all-pieces =
             rw (
               joined-map pieceOf (cut w 0 ends),
-              entries-are limits01 w ends [] [] low (rw long (f .long)) rising (omega (arith, low-is, f .low, f .bottom)) gap,
+              entries-are limits01 w ends [] [] low long rising (omega (arith, low-is, f .low, f .bottom)) gap,
               last-entry,
               own,
               map-append pieceOf (run w 0 (low - 1)) (entry 0x88 count 0 ∷ []),
@@ -287,6 +289,10 @@ module _ (w0 : List ℕ) (b : CodeBuilder) (f : Fine b w0) (bottom : b .base ≡
         pub done : Holds limits01 F (finished (state F b w0)) w
         done = filled-holds limits01 F (finished (state F b w0)) w ends (poolOf b w) low filled pieces (cut-written w 0 ends low rising (λ j p q. written j q)) reads counted
             (and-both (all (piece-named F) (joined pieces)) (all (namesString F) (poolOf b w)) pieces-named strings-named)
+
+copied-entry : {w v : List ℕ} → Copied w v → (j : ℕ) → j < 4096 → entryAt v j ≡ entryAt w j
+unfolding entryAt
+copied-entry k j h = rw (k .same (j * 3) (omega arith), k .same (j * 3 + 1) (omega arith), k .same (j * 3 + 2) (omega arith))
 
 -- the first action is no mark, whatever it is
 first-action : (a c : Plain) (is : List Item) (ls : List (List Item)) (l : ℕ) → labelWord ((plain a ∷ is) ∷ ls) l ≡ labelWord ((plain c ∷ is) ∷ ls) l
@@ -308,15 +314,21 @@ module _ (w0 : List ℕ) (b : CodeBuilder) (f : Fine b w0) (bottom : b .base ≡
   cleared-long : length w2 ≡ length w0
   cleared-long = c .long ∙ length-set w1 (13312 + b .lists) low ∙ m .long
 
+  cleared-room : 16384 ≤ length w2
+  cleared-room = omega (arith, cleared-long, f .long)
+
   cleared-entry : (j : ℕ) → j < 4096 → entryAt w2 j ≡ entryAt w1 j
   cleared-entry j k = same-entries (set w1 (13312 + b .lists) low) w2 (c .before) j k ∙ entry-side w1 (13312 + b .lists) low j (omega arith)
 
   pub top-stands : Standing w2 (b .low) low
-  top-stands = top-standing w0 b f bottom m 0 w2 cleared-long (λ j q k. cleared-entry j k) (cleared-entry (low - 1) last-inside ∙ pool-moved) (c .behind)
+  top-stands = top-standing w0 b f bottom m 0 w2 cleared-room (λ j q k. cleared-entry j k) (cleared-entry (low - 1) last-inside ∙ pool-moved) (λ j h k. c .behind j h)
 
   module _ {w3 : List ℕ} (d : (F : List ℕ) → Located w2 (listAt F w2 (b .low) low ∷ []) w3) where
     top-long : length w3 ≡ length w0
     top-long = d [] .long ∙ cleared-long
+
+    top-room : 16384 ≤ length w3
+    top-room = omega (arith, top-long, f .long)
 
     top-entry : (j : ℕ) → j < 4096 → entryAt w3 j ≡ entryAt w1 j
     top-entry j k = same-entries w2 w3 (d [] .before) j k ∙ cleared-entry j k
@@ -325,7 +337,7 @@ module _ (w0 : List ℕ) (b : CodeBuilder) (f : Fine b w0) (bottom : b .base ≡
     behind j h = d [] .behind j h ∙ c .behind j h
 
     pub lists-stand : Finished w3 (b .lists)
-    lists-stand = lists-standing w0 b f bottom m 0 w3 top-long (λ j q k. top-entry j k) (top-entry (low - 1) last-inside ∙ pool-moved) behind
+    lists-stand = lists-standing w0 b f bottom m 0 w3 top-room (λ j q k. top-entry j k) (top-entry (low - 1) last-inside ∙ pool-moved) (λ j h k. behind j h)
 
     module _ {w4 : List ℕ} (e : (F : List ℕ) → Located w3 (listsAt F w3 (b .lists)) w4) (F : List ℕ) where
       abbrev final-words : List ℕ
@@ -342,14 +354,16 @@ module _ (w0 : List ℕ) (b : CodeBuilder) (f : Fine b w0) (bottom : b .base ≡
             after-entries (12288 + l) (omega arith),
             located-append (d F) (e F) .places l h,
             c .zeros l h,
-            list-at w0 b f bottom m 0 w2 cleared-long (λ j q k. cleared-entry j k) (cleared-entry (low - 1) last-inside ∙ pool-moved) (c .behind) F,
-            lists-at w0 b f bottom m 0 w3 top-long (λ j q k. top-entry j k) (top-entry (low - 1) last-inside ∙ pool-moved) behind F,
-            final-lists w0 b f bottom m 0 w3 top-long (λ j q k. top-entry j k) (top-entry (low - 1) last-inside ∙ pool-moved) behind F,
+            list-at w0 b f bottom m 0 w2 cleared-room (λ j q k. cleared-entry j k) (cleared-entry (low - 1) last-inside ∙ pool-moved) (λ j h k. c .behind j h) F,
+            lists-at w0 b f bottom m 0 w3 top-room (λ j q k. top-entry j k) (top-entry (low - 1) last-inside ∙ pool-moved) (λ j h k. behind j h) F,
+            final-lists w0 b f bottom m 0 w3 top-room (λ j q k. top-entry j k) (top-entry (low - 1) last-inside ∙ pool-moved) (λ j h k. behind j h) F,
           ) (first-action _ _ _ _ l)
 
-      pub finish-done : Named F b w0 → Holds limits01 F (finished (state F b w0)) final-words
-      finish-done n =
-          done w0 b f bottom m (b .constants) final-words (length-put w4 (low - 1) 0x88 (b .constants) 0 ∙ e [] .long ∙ top-long)
-          (λ j q k. entry-other w4 (low - 1) 0x88 (b .constants) 0 j q ∙ same-entries w3 w4 (e [] .before) j k ∙ top-entry j k)
-          (entry-same w4 (low - 1) 0x88 (b .constants) 0 (omega (arith, e [] .long, top-long, f .long, last-inside)))
-          (λ j h. after-entries j (omega arith) ∙ e [] .behind j h ∙ behind j h) F refl n all-labels
+      -- in whatever words they are copied to
+      pub finish-done : Named F b w0 → {v : List ℕ} → Copied final-words v → Holds limits01 F (finished (state F b w0)) v
+      finish-done n {v} k =
+          done w0 b f bottom m (b .constants) v (k .room)
+          (λ j q h. copied-entry k j h ∙ entry-other w4 (low - 1) 0x88 (b .constants) 0 j q ∙ same-entries w3 w4 (e [] .before) j h ∙ top-entry j h)
+          (copied-entry k (low - 1) last-inside ∙ entry-same w4 (low - 1) 0x88 (b .constants) 0 (omega (arith, e [] .long, top-long, f .long, last-inside)))
+          (λ j h q. k .same j q ∙ after-entries j (omega arith) ∙ e [] .behind j h ∙ behind j h) F refl n
+          (λ l h. k .same (12288 + l) (omega arith) ∙ all-labels l h) (k .rest)

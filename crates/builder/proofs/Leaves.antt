@@ -20,6 +20,7 @@ use Rattle.codegen_state.specs.declared.CodeBuilder.{CodeBuilder}
 use Rattle.codegen_state.specs.View.{gather, labelsOf, endsOf, poolOf, openOf, state, waiting, holds, held, carry, after, good}
 use Rattle.codegen_state.specs.Does.{marked, Written, Begins, Fine, Named, Does, Says}
 use Rattle.codegen_state.proofs.Steps.{held-stopped, held-holds}
+use Rattle.codegen_state.proofs.Index.{indexed-same}
 use Rattle.builder.specs.Entries.{put3, refusedWith, grown, Grown}
 use Rattle.builder.proofs.Codes.{op-code, value-to}
 use Rattle.builder.proofs.Words.{length-put, entry-same, entry-other, getD-put, side-put}
@@ -69,11 +70,10 @@ changed-fine n l z f least most small ms = record {
   no-label = λ i x y. f .no-label i (omega arith) y;
   no-end = f .no-end;
   no-string = f .no-string;
-  no-rest = f .no-rest;
 }
 
 pub changed-named : {F : List ℕ} {b : CodeBuilder} {w : List ℕ} (n l z : ℕ) → Named F b w → Named F (changed b n l z) w
-changed-named n l z x = record { finished = x .finished; unfinished = x .unfinished; strings = x .strings }
+changed-named n l z x = record { finished = x .finished; unfinished = x .unfinished; strings = x .strings; indexed = x .indexed }
 
 pub refuses-in : {A : Type 0} (F : List ℕ) (m : M A) (a : A) {b r : CodeBuilder} (n : ℕ) {w : List ℕ} {s : State} → Fine b w → b .refused ≡ 0 → (n ≡ 0 → ⊥) → m (state F b w) ≡ refused n s →
     r ≡ refusedWith b n → Does F m b w a r w
@@ -231,7 +231,6 @@ module _ (F : List ℕ) {b : CodeBuilder} {w w′ labels : List ℕ} (p : Piece)
     no-label = λ i x y. rw (wr .behind (12288 + i) (omega arith)) (f .no-label i x y);
     no-end = λ i x y. rw (wr .behind (13312 + i) (omega (arith, f .labels))) (f .no-end i x y);
     no-string = λ i x y. rw (wr .behind (14336 + i) (omega (arith, f .labels))) (f .no-string i x y);
-    no-rest = λ i x. rw (wr .behind i (omega (arith, f .labels))) (f .no-rest i x);
   }
 
   pub grown-named : T (good F p) → Named F b w → Named F b′ w′
@@ -239,6 +238,7 @@ module _ (F : List ℕ) {b : CodeBuilder} {w w′ labels : List ℕ} (p : Piece)
     finished = λ i k. rw (wr .there i (λ e. omega arith) (omega (arith, f .bottom))) (x .finished i k);
     unfinished = λ i k y. at-top (λ (i : ℕ) (e : Entry). T (good F (pieceOf e))) i k (omega arith) (rw (piece-back p) g) (λ q. x .unfinished i q y);
     strings = λ i k. rw (wr .behind (14336 + i) (omega (arith, f .labels))) (x .strings i k);
+    indexed = indexed-same (λ i k. wr .behind i (omega (arith, f .labels))) (x .indexed);
   }
 
 -- an entry written, and no other word

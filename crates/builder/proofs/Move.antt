@@ -1,6 +1,6 @@
 -- The move of a list to the finished ones.
 use Prim.Native.Nat.{ℕ, _+_, _-_, _*_, _≤_, _<_, min}
-use mathlib.Core.Path.{_≡_, refl, ap}
+use mathlib.Core.Path.{_≡_, refl, ap, sym, _∙_}
 use mathlib.Core.Logic.{_≢_}
 use mathlib.Core.List.{List, [], _∷_, _++_}
 use mathlib.Core.Bool.{Bool, true, false}
@@ -119,6 +119,14 @@ same-part w w′ a n l h =
     at j k =
         let o : j < n = omega (arith, length-take n (drop a w′)) in
         rw (getD-take n (drop a w′) j 0 o, getD-take n (drop a w) j 0 o, getD-drop a w′ j 0, getD-drop a w j 0) (h j o)
+
+-- and where the lengths differ
+pub same-inside : (w w′ : List ℕ) (a n : ℕ) → a + n ≤ length w → a + n ≤ length w′ → ((j : ℕ) → j < n → getD w′ (a + j) 0 ≡ getD w (a + j) 0) → take n (drop a w′) ≡ take n (drop a w)
+same-inside w w′ a n l l′ h =
+    let long : length (take n (drop a w)) ≡ n = simp (length-take, length-drop) (omega arith) in
+    let long′ : length (take n (drop a w′)) ≡ n = simp (length-take, length-drop) (omega arith) in
+    ext-getD 0 (take n (drop a w′)) (take n (drop a w)) (long′ ∙ sym long)
+    (λ j k. let o : j < n = omega arith in rw (getD-take n (drop a w′) j 0 o, getD-take n (drop a w) j 0 o, getD-drop a w′ j 0, getD-drop a w j 0) (h j o))
 
 pub part-more : (w : List ℕ) (a n : ℕ) → a + n < length w → take (n + 1) (drop a w) ≡ take n (drop a w) ++ (getD w (a + n) 0 ∷ [])
 part-more w a n h = rw (add-one, take-suc (drop a w) n 0 (simp length-drop (omega arith)), getD-drop a w n 0)

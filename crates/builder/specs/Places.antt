@@ -14,6 +14,12 @@ use Rattle.list_slice.proofs.Laid.{Rising}
 use Rattle.codegen_state.specs.View.{gather}
 use Rattle.codegen_state.specs.Does.{Written}
 
+-- the words of a list slice are copied, and zeros stand behind them
+pub record Copied (w v : List ℕ) : Type 0 where
+  pub room : 16384 ≤ length v
+  pub same : (j : ℕ) → j < 16384 → getD v j 0 ≡ getD w j 0
+  pub rest : (j : ℕ) → 16384 ≤ j → getD v j 0 ≡ 0
+
 -- the label words are zeros, and the others stay
 pub record Cleared (w w′ : List ℕ) : Type 0 where
   pub long : length w′ ≡ length w

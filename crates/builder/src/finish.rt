@@ -8,7 +8,7 @@ ghost use Rattle.lowering.specs.Builder.{limits01};
 ghost use Rattle.list_slice.specs.Compiled.{Holds};
 ghost use Rattle.codegen_state.specs.View.{state};
 ghost use Rattle.codegen_state.specs.Does.{Fine, Named};
-ghost use Rattle.builder.specs.Places.{Cleared, placed, placedAt, actionsAdded, Located, listAt, listsAt, Standing, Finished, finished};
+ghost use Rattle.builder.specs.Places.{Copied, Cleared, placed, placedAt, actionsAdded, Located, listAt, listsAt, Standing, Finished, finished};
 use crate::entries::put;
 use crate::move_list::move_list;
 use codegen_state::CodeBuilder;
@@ -111,8 +111,8 @@ fn function_positions(list: &mut [u32], lists: usize)
 pub fn into_actions(list: &mut [u32], b: CodeBuilder)
     requires { ⌜ Fine b (now list) ⌝ }
     requires { ⌜ b .base ≡ 4096 ⌝ }
-    ensures { λ r. ⌜ ((F : List ℕ) → Named F b (now (list .entry)) →
-        Holds limits01 F (finished (state F b (now (list .entry)))) (now (list .exit))) ⌝ }
+    ensures { λ r. ⌜ ((F v : List ℕ) → Named F b (now (list .entry)) → Copied (now (list .exit)) v →
+        Holds limits01 F (finished (state F b (now (list .entry)))) v) ⌝ }
 {
     let from = b.low;
     let low = move_list(list, from, b.top, 4096);

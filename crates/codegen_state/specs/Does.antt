@@ -13,6 +13,7 @@ use Rattle.list_slice.specs.File.{inFile, namesString}
 use Rattle.list_slice.proofs.Laid.{Rising}
 use Rattle.codegen_state.specs.declared.CodeBuilder.{CodeBuilder}
 use Rattle.codegen_state.specs.View.{labelsOf, endsOf, held, after, shut, good}
+use Rattle.codegen_state.specs.Index.{Indexed}
 
 -- how many labels are marked
 unfoldable pub marked : List ℕ → ℕ
@@ -31,7 +32,7 @@ Begins w base = entryAt w (base - 1) .code < 0x120
 -- the counts bound each other and the room, and what is not used is zeros; the pool's entry stands at the bottom of the top list; a later value of a
 -- Push follows a value of its list
 pub record Fine (b : CodeBuilder) (w : List ℕ) : Type 0 where
-  pub long : 16384 ≤ length w
+  pub long : 20480 ≤ length w
   pub low : b .low ≤ b .top
   pub base : b .top ≤ b .base
   pub cap : b .base ≤ 4096
@@ -55,13 +56,13 @@ pub record Fine (b : CodeBuilder) (w : List ℕ) : Type 0 where
   pub no-label : (i : ℕ) → b .labels ≤ i → i < 1024 → getD w (12288 + i) 0 ≡ 0
   pub no-end : (i : ℕ) → b .lists ≤ i → i < 1024 → getD w (13312 + i) 0 ≡ 0
   pub no-string : (i : ℕ) → b .constants ≤ i → i < 2048 → getD w (14336 + i) 0 ≡ 0
-  pub no-rest : (i : ℕ) → 16384 ≤ i → getD w i 0 ≡ 0
 
--- every reference names something of the file
+-- every reference names something of the file, and the index is that of the pool
 pub record Named (F : List ℕ) (b : CodeBuilder) (w : List ℕ) : Type 0 where
   pub finished : (i : ℕ) → i < b .low → T (good F (pieceOf (entryAt w i)))
   pub unfinished : (i : ℕ) → b .top ≤ i → i < 4095 → T (good F (pieceOf (entryAt w i)))
   pub strings : (i : ℕ) → i < b .constants → T (namesString F (getD w (14336 + i) 0))
+  pub indexed : Indexed F (b .constants) w
 
 -- from a CodeBuilder and words to others, the step m is done, with the value a
 pub record Does {A : Type 0} (F : List ℕ) (m : M A) (b : CodeBuilder) (w : List ℕ) (a : A) (r : CodeBuilder) (w′ : List ℕ) : Type 0 where

@@ -18,7 +18,8 @@ use Rattle.codegen_state.specs.Does.{Fine, Does}
 use Rattle.codegen_state.proofs.Steps.{held-stopped, held-holds}
 use Rattle.constants.specs.declared.Found.{Found}
 use Rattle.constants.specs.declared.Found.the-variants as found
-use Rattle.constants.specs.Pool.{place, foundOf, added, Added}
+use Rattle.codegen_state.specs.Index.{hash}
+use Rattle.constants.specs.Pool.{place, foundOf, added, joining, Added}
 use Rattle.constants.proofs.Added.{state-added, waiting-added, added-fine, added-named}
 
 -- the pool alone is replaced
@@ -134,8 +135,8 @@ module _ {F : List ℕ} {b : CodeBuilder} {w : List ℕ} {r : CodeBuilder} {w₁
   room : r .constants < r .values
   room = omega (arith, pool-length F (d .fine), pool-length F f, ap length same-pool, one-value, f .constants)
 
-  pub add-room : {n : ℕ} → n < 65535 - b .total → (16384 ≤ length w₁) × ((r .constants < 2048) × (r .total + (n + 1) ≤ 65535))
-  add-room k = (d .fine .long, (omega (arith, room, d .fine .values), omega (arith, same-total)))
+  pub add-room : {n h : ℕ} → n < 65535 - b .total → h < 2048 → (20480 ≤ length w₁) × ((r .constants < 2048) × ((r .total + (n + 1) ≤ 65535) × (h < 2048)))
+  add-room k small = (d .fine .long, (omega (arith, room, d .fine .values), (omega (arith, same-total), small)))
 
 -- what `push_string` does in each case
 module _ (F : List ℕ) (s : ℕ) {b : CodeBuilder} {w : List ℕ} (f : Fine b w) (h : b .refused ≡ 0) where
@@ -158,22 +159,22 @@ module _ (F : List ℕ) (s : ℕ) {b : CodeBuilder} {w : List ℕ} (f : Fine b w
       pub push-refused : (r .refused ≡ 0 → ⊥) → Does F (push-string (textIn F s)) b w tt r w₁
       push-refused q = record { same = rw (joined, held-stopped F (tt {0}) r w₁ q); fine = d .fine; named = d .named }
 
-      pub push-added : (q : r .refused ≡ 0) {r′ : CodeBuilder} {w′ : List ℕ} → T (namesString F s) → Added r w₁ s (length x + 1) r′ w′ →
+      pub push-added : (q : r .refused ≡ 0) {r′ : CodeBuilder} {w′ : List ℕ} {h′ : ℕ} → (h′ ≡ hash x) × (h′ < 2048) → T (namesString F s) → Added r w₁ s (length x + 1) h′ r′ w′ →
           Does F (push-string (textIn F s)) b w tt r′ w′
-      push-added q t a =
+      push-added q {h′ = h′} g t a =
           let fits = room f h d q in
           rw (a .new, a .words) (record {
             same =
                 rw (
                   joined,
                   held-holds F (tt {0}) r w₁ q,
-                  held-holds F (tt {0}) (added r (length x + 1)) (set w₁ (14336 + r .constants) s) q,
-                  state-added F r w₁ s (length x + 1) (d .fine) fits,
-                  waiting-added F r w₁ s (length x + 1) (d .fine) fits,
+                  held-holds F (tt {0}) (added r (length x + 1)) (joining w₁ (r .constants) s h′) q,
+                  state-added F r w₁ s (length x + 1) h′ (d .fine) fits (g .1),
+                  waiting-added F r w₁ s (length x + 1) h′ (d .fine) fits (g .1),
                   same-pool f h d q,
                   same-total f h d q,
                   ← text,
                 );
-            fine = added-fine F r w₁ s (length x + 1) (d .fine) fits (omega (arith, same-total f h d q));
-            named = λ n. added-named F r w₁ s (length x + 1) (d .fine) fits t (d .named n);
+            fine = added-fine F r w₁ s (length x + 1) h′ (d .fine) fits (g .1) (omega (arith, same-total f h d q));
+            named = λ n. added-named F r w₁ s (length x + 1) h′ (d .fine) fits (g .1) (g .0 ∙ ap hash text) t (d .named n);
           })

@@ -1,21 +1,27 @@
--- The string of a reference, and the search of the pool.
-use Prim.Native.Nat.{ℕ, suc, _+_, _≤_, _<_}
+-- The string of a reference, its hash, and the search of the pool along the strings of one hash.
+use Prim.Native.Nat.{ℕ, zero, suc, _+_, _-_, _*_, _%_, _≤_, _<_}
 use mathlib.Core.Path.{_≡_, refl, sym, ap, _∙_}
 use mathlib.Core.List.{List, [], _∷_, map}
-use mathlib.Core.Bool.{Bool, true, false}
+use mathlib.Core.Bool.{Bool, true, false, cond}
 use mathlib.Core.Option.{Option, none, some}
 use native.Mathlib.Numerals.{add-one}
 use native.Mathlib.Omega.{arith}
 use lib.ListN.{length, getD, take, drop, length-take, length-drop, drop-of-length-le}
 use lib.Seq.{drop-cons, getD-take, getD-drop}
-use borrow.Author.Tests.{eq-eqb, ne-eqb}
+use lib.Dec.{eqb}
+use borrow.Author.Tests.{eq-eqb, ne-eqb, eqb-false}
 use Rattle.hir.specs.Hir.{Str}
 use Rattle.special_properties.specs.SpecialProperties.{sameBytes}
 use Rattle.script_records.specs.declared.layout.Layout.{Layout}
 use Rattle.script_records.specs.Layout.{layoutOf, stringAt}
 use Rattle.lowering.specs.Strings.{find}
 use Rattle.list_slice.specs.File.{noString, textIn}
-use Rattle.constants.specs.Pool.{place}
+use Rattle.codegen_state.specs.Index.{hashFrom, hash, latest, hashAt, Indexed}
+use Rattle.codegen_state.proofs.Index.{latest-le, latest-again, latest-has}
+use Rattle.special_properties.proofs.Laws.{same-bytes-equal}
+use Rattle.constants.specs.declared.Found.{Found}
+use Rattle.constants.specs.declared.Found.the-variants as found
+use Rattle.constants.specs.Pool.{place, foundOf}
 
 pub text-none : (F : List ℕ) (s : ℕ) → s ≡ noString → [] ≡ textIn F s
 unfolding textIn
@@ -25,41 +31,102 @@ pub text-of : (F : List ℕ) (s : ℕ) {l : Layout} → (s ≡ noString → ⊥)
 unfolding textIn
 text-of F s h e g = g ∙ simp (ne-eqb s noString h, e)
 
-find-here : (p : Str → Bool) (i : ℕ) (x : Str) (xs : List Str) → p x ≡ true → find p i (x ∷ xs) ≡ some i
-find-here p i x xs e = rw (e, find)
+-- the loop of `bucket`: the first k bytes are taken
+pub record Hashed (s : List ℕ) (h k : ℕ) : Type 0 where
+  pub small : h < 65536
+  pub rest : hashFrom h (drop k s) ≡ hashFrom 0 s
 
-find-later : (p : Str → Bool) (i : ℕ) (x : Str) (xs : List Str) → p x ≡ false → find p i (x ∷ xs) ≡ find p (suc i) xs
-find-later p i x xs e = rw (e, find)
+pub hashed-none : {s : List ℕ} → Hashed s 0 0
+hashed-none = record { small = omega arith; rest = refl }
+
+module _ {s : List ℕ} {h k : ℕ} (v : Hashed s h k) where
+  pub hashed-more : k < length s → {x : ℕ} → (x ≡ getD s k 0) × (x < 256) → Hashed s ((h * 31 + x) % 65536) (k + 1)
+  unfolding hashFrom
+  hashed-more p e = record { small = omega arith; rest = rw (add-one, e .0) (rw (drop-cons s k 0 p) at (v .rest)) }
+
+  pub hashed-all : length s ≤ k → h % 2048 ≡ hash s
+  unfolding hashFrom
+  hashed-all p = ap (λ (x : ℕ). x % 2048) (rw (drop-of-length-le s {i = k} p) at (v .rest))
+
+find-here : (p : Str → Bool) (i : ℕ) (x : Str) (xs : List Str) → find p i (x ∷ xs) ≡ cond (p x) (some i) (find p (suc i) xs)
+find-here p i x xs = go (p x)
+  where
+    go : (b : Bool) → _≡_ {A = Option ℕ} (elim b [ true ↦ some i | false ↦ find p (suc i) xs ]) (cond b (some i) (find p (suc i) xs))
+    go true = refl
+    go false = refl
+
+-- strings of other hashes are other strings
+other-hash : (x y : List ℕ) → eqb (hash y) (hash x) ≡ false → sameBytes x y ≡ false
+other-hash x y e = go (sameBytes x y) refl
+  where
+    go : (b : Bool) → sameBytes x y ≡ b → b ≡ false
+    go false q = refl
+    go true q = absurd (eqb-false (hash y) (hash x) e (ap hash (sym (same-bytes-equal x y .0 q))))
 
 -- the first n words of the pool
 abbrev pool : List ℕ → ℕ → List ℕ
 pool w n = take n (drop 14336 w)
 
--- the loop of `find`: of the pool's n strings, the first i are others
-pub record Searched (F w : List ℕ) (n s i : ℕ) : Type 0 where
-  pub within : i ≤ n
-  pub rest : find (sameBytes (textIn F s)) i (map (textIn F) (drop i (pool w n))) ≡ place F (pool w n) s
+module _ (F w : List ℕ) (n s : ℕ) where
+  -- the first place from i on
+  abbrev placeFrom : ℕ → Option ℕ
+  placeFrom i = find (sameBytes (textIn F s)) i (map (textIn F) (drop i (pool w n)))
 
-pub searched-none : {F w : List ℕ} {n s : ℕ} → Searched F w n s 0
-searched-none = record { within = omega arith; rest = refl }
+  abbrev sought-hash : ℕ
+  sought-hash = hash (textIn F s)
 
-module _ {F w : List ℕ} {n s i : ℕ} (v : Searched F w n s i) where
-  pub searched-all : n ≤ i → none ≡ place F (pool w n) s
-  searched-all h = rw (drop-of-length-le (pool w n) {i = i} (simp length-take (omega arith))) at (v .rest)
+  -- the loop of `find`: of the strings from `next` on, it was found
+  pub record Searching (next : ℕ) (f : Found) : Type 0 where
+    pub within : next ≤ n
+    pub latest-is : next ≡ latest (hashAt F w) sought-hash next
+    pub rest : foundOf f ≡ placeFrom next
 
-  module _ (long : 14336 + n ≤ length w) (h : i < n) where
-    next : drop i (pool w n) ≡ getD w (14336 + i) 0 ∷ drop (suc i) (pool w n)
-    next = rw (drop-cons (pool w n) i 0 (simp (length-take, length-drop) (omega arith)), getD-take n (drop 14336 w) i 0, getD-drop 14336 w i 0)
+  module _ (long : 14336 + n ≤ length w) where
+    place-at : (i : ℕ) → i < n → placeFrom i ≡ cond (sameBytes (textIn F s) (textIn F (getD w (14336 + i) 0))) (some i) (placeFrom (suc i))
+    place-at i h =
+        let e : drop i (pool w n) ≡ getD w (14336 + i) 0 ∷ drop (suc i) (pool w n) =
+        rw (drop-cons (pool w n) i 0 (simp (length-take, length-drop) (omega arith)), getD-take n (drop 14336 w) i 0 h, getD-drop 14336 w i 0) in
+        rw e (find-here (sameBytes (textIn F s)) i (textIn F (getD w (14336 + i) 0)) (map (textIn F) (drop (suc i) (pool w n))))
 
-    abbrev rest-of : List Str
-    rest-of = map (textIn F) (drop (suc i) (pool w n))
+    -- what lies between a place and the latest string of the hash before it is passed over
+    passed-over : (m : ℕ) → m ≤ n → placeFrom (latest (hashAt F w) sought-hash m) ≡ placeFrom m
+    unfolding latest
+    passed-over zero h = refl
+    passed-over (suc m) h = go (eqb (hashAt F w m) sought-hash) refl (passed-over m (omega arith))
+      where
+        go : (b : Bool) → eqb (hashAt F w m) sought-hash ≡ b → placeFrom (latest (hashAt F w) sought-hash m) ≡ placeFrom m →
+            placeFrom (cond b (suc m) (latest (hashAt F w) sought-hash m)) ≡ placeFrom (suc m)
+        go true e q = refl
+        go false e q = q ∙ place-at m (omega arith) ∙ rw (other-hash (textIn F s) (textIn F (getD w (14336 + m) 0)) e)
 
-    module _ {x y : List ℕ} {t : Bool} (a : x ≡ textIn F s) (b : y ≡ textIn F (getD w (14336 + i) 0)) (test : t ≡ sameBytes x y) where
-      answer : sameBytes (textIn F s) (textIn F (getD w (14336 + i) 0)) ≡ t
-      answer = rw (test, a, b)
+    none-from : placeFrom n ≡ none
+    none-from = rw (drop-of-length-le (pool w n) {i = n} (simp length-take (omega arith)), find)
 
-      pub searched-more : t ≡ false → Searched F w n s (i + 1)
-      searched-more f = record { within = omega arith; rest = rw add-one (sym (find-later (sameBytes (textIn F s)) i (textIn F (getD w (14336 + i) 0)) rest-of (answer ∙ f)) ∙ (rw next at (v .rest))) }
+    module _ (x : Indexed F n w) where
+      pub search-starts : {h next : ℕ} → (h ≡ sought-hash) × (h < 2048) → next ≡ getD w (16384 + h) 0 → Searching next found.Nothing
+      search-starts {h} {next} p e =
+          let q : next ≡ latest (hashAt F w) sought-hash n = e ∙ x .heads h (p .1) ∙ ap (λ (k : ℕ). latest (hashAt F w) k n) (p .0) in
+          record {
+            within = rw q (latest-le (hashAt F w) sought-hash n);
+            latest-is = rw q (sym (latest-again (hashAt F w) sought-hash n));
+            rest = rw q (sym (passed-over n (omega arith) ∙ none-from));
+          }
 
-      pub searched-found : t ≡ true → some i ≡ place F (pool w n) s
-      searched-found f = sym (find-here (sameBytes (textIn F s)) i (textIn F (getD w (14336 + i) 0)) rest-of (answer ∙ f)) ∙ (rw next at (v .rest))
+      pub search-goes-on : {next : ℕ} {f g : Found} {t : Bool} {i after : ℕ} → Searching next f → (next ≡ 0 → ⊥) → i ≡ next - 1 →
+          t ≡ sameBytes (textIn F s) (textIn F (getD w (14336 + i) 0)) → foundOf g ≡ cond t (some i) (foundOf f) → after ≡ getD w (18432 + i) 0 → Searching after g
+      search-goes-on {next} {f} {g} {t} {i} {after} v z d u r a =
+          let m : next ≡ suc i = omega arith in
+          let less : i < n = omega (arith, v .within) in
+          let has : hashAt F w i ≡ sought-hash = latest-has (hashAt F w) sought-hash i (sym m ∙ v .latest-is ∙ ap (latest (hashAt F w) sought-hash) m) in
+          let q : after ≡ latest (hashAt F w) sought-hash i = a ∙ x .links i less ∙ ap (λ (k : ℕ). latest (hashAt F w) k i) has in
+          record {
+            within = rw q (omega (arith, latest-le (hashAt F w) sought-hash i));
+            latest-is = rw q (sym (latest-again (hashAt F w) sought-hash i));
+            rest = rw q (r ∙ rw (u, v .rest, m) (sym (passed-over i (omega arith) ∙ place-at i less)));
+          }
+
+      pub search-falls : {next : ℕ} {f : Found} {i after : ℕ} → Searching next f → (next ≡ 0 → ⊥) → i ≡ next - 1 → after ≡ getD w (18432 + i) 0 → after < next
+      search-falls {next} {f} {i} v z d a = omega (arith, a ∙ x .links i (omega (arith, v .within)), latest-le (hashAt F w) (hashAt F w i) i)
+
+    pub search-ends : {next : ℕ} {f : Found} → Searching next f → next ≡ 0 → foundOf f ≡ place F (pool w n) s
+    search-ends v z = v .rest ∙ ap placeFrom z

@@ -3,12 +3,13 @@ use Prim.Native.Nat.{ℕ, _+_}
 use mathlib.Core.Path.{_≡_}
 use mathlib.Core.List.{List, map}
 use mathlib.Core.Option.{Option, none, some}
-use lib.ListN.{set}
+use lib.ListN.{getD, set}
 use Rattle.special_properties.specs.SpecialProperties.{sameBytes}
 use Rattle.lowering.specs.Strings.{find}
 use Rattle.list_slice.specs.File.{textIn}
 use Rattle.codegen_state.specs.declared.CodeBuilder.{CodeBuilder}
 use Rattle.codegen_state.specs.View.{poolFrom}
+use Rattle.codegen_state.specs.Index.{headsFrom, linksFrom}
 use Rattle.constants.specs.declared.Found.{Found}
 use Rattle.constants.specs.declared.Found.the-variants as found
 
@@ -38,6 +39,10 @@ added b n = record {
   base = b .base;
 }
 
-pub record Added (b : CodeBuilder) (w : List ℕ) (s n : ℕ) (r : CodeBuilder) (w′ : List ℕ) : Type 0 where
+-- the words with it: its word, its link to the latest string with its hash h, and itself as the latest
+abbrev pub joining : List ℕ → (n s h : ℕ) → List ℕ
+joining w n s h = set (set (set w (poolFrom + n) s) (linksFrom + n) (getD w (headsFrom + h) 0)) (headsFrom + h) (n + 1)
+
+pub record Added (b : CodeBuilder) (w : List ℕ) (s n h : ℕ) (r : CodeBuilder) (w′ : List ℕ) : Type 0 where
   pub new : r ≡ added b n
-  pub words : w′ ≡ set w (poolFrom + b .constants) s
+  pub words : w′ ≡ joining w (b .constants) s h

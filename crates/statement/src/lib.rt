@@ -304,7 +304,15 @@ fn gen_statement(
                 let b1 = gen_statements(file, l, body, b, list, scratch, lp);
                 truncate_stack(list, b1, b.size)
             }
-            StatementKind::ForIn(condition) => gen_for_loop(file, l, kids, b, list, scratch, condition),
+            StatementKind::ForIn(condition) => gen_for_loop(
+                file,
+                l,
+                kids,
+                b,
+                list,
+                scratch,
+                condition,
+            ),
             StatementKind::While => gen_while_loop(file, l, kids, b, list, scratch),
             StatementKind::If => gen_if(file, l, kids, b, list, scratch, lp),
             StatementKind::Break => jump_to(list, b, break_to),
@@ -373,16 +381,49 @@ fn gen_switch(
     let inner = with_exit(lp, end);
     if n.cases == 0 {
         let b3 = jump(list, b2, Label(default));
-        let b4 = each(file, l, elements, b3, list, scratch, Each::Element, inner, first, default);
+        let b4 = each(
+            file,
+            l,
+            elements,
+            b3,
+            list,
+            scratch,
+            Each::Element,
+            inner,
+            first,
+            default,
+        );
         return mark_label(list, b4, Label(end));
     }
     let target = kid_at(file, l, p, 1);
     let b3 = gen_expr(file, l, target, b2, list, scratch, false);
     let b4 = store_register(list, b3, 0);
     let idle = no_loop();
-    let b5 = each(file, l, elements, b4, list, scratch, Each::Conditional, idle, first, 0);
+    let b5 = each(
+        file,
+        l,
+        elements,
+        b4,
+        list,
+        scratch,
+        Each::Conditional,
+        idle,
+        first,
+        0,
+    );
     let b6 = jump(list, b5, Label(default));
-    let b7 = each(file, l, elements, b6, list, scratch, Each::Element, inner, first, default);
+    let b7 = each(
+        file,
+        l,
+        elements,
+        b6,
+        list,
+        scratch,
+        Each::Element,
+        inner,
+        first,
+        default,
+    );
     mark_label(list, b7, Label(end))
 }
 
@@ -458,7 +499,18 @@ fn gen_for_loop(
             cur = ends(file, l, conditions, cur, list, scratch, end);
             cur = gen_statement(file, l, p, cur, list, scratch, inner);
             cur = mark_label(list, cur, Label(next));
-            cur = each(file, l, update, cur, list, scratch, Each::Discarded, inner, 0, 0);
+            cur = each(
+                file,
+                l,
+                update,
+                cur,
+                list,
+                scratch,
+                Each::Discarded,
+                inner,
+                0,
+                0,
+            );
             cur = jump(list, cur, Label(start));
             cur = truncate_stack(list, cur, b.size);
             mark_label(list, cur, Label(end))

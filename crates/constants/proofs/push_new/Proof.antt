@@ -40,16 +40,18 @@ cast-add c = search needs
 add-add : tie.Need-add-add
 add-add c = search needs
 
+bucket-requires : tie.Need-bucket-requires
+bucket-requires c κs = search needs
+
 add-requires : tie.Need-add-requires
-add-requires c κs = let start = c .before .before .before .before .before .before .before .before .before .before .before .before in
-    add-room (start .pre .0) (start .pre .1 .1) (c .before .before .before .before .before .push2 .ensures (now (start .args .file)) (search needs)) (c .before .if2 .left) (search needs)
+add-requires c κs = add-room (c .before .before .before .before .before .before .before .before .before .before .before .before .before .pre .0) (c .before .before .before .before .before .before .before .before .before .before .before .before .before .pre .1 .1) (c .before .before .before .before .before .before .push2 .ensures (now (c .before .before .before .before .before .before .before .before .before .before .before .before .before .args .file)) (search needs)) (c .before .before .if2 .left) (search needs) (c .bucket .ensures .1)
 
 same-length-3 : tie.Need-same-length-3
 same-length-3 c = search needs
 
 returns-3 : tie.Need-returns-3
-returns-3 c = let start = c .before .before .before .before .before .before .before .before .before .before .before .before .before .before .before in
-    λ t e. push-added (now (start .args .file)) (start .args .s) (start .pre .0) (start .pre .1 .1) (c .before .before .before .before .before .before .before .before .before .before .before .before .text .ensures) e (search needs) (c .before .before .before .before .before .before .before .before .push2 .ensures (now (start .args .file)) (search needs)) (c .before .before .before .before .if2 .left) t (c .before .before .add .ensures)
+returns-3 c =
+    λ t e. push-added (now (c .before .before .before .before .before .before .before .before .before .before .before .before .before .before .before .before .args .file)) (c .before .before .before .before .before .before .before .before .before .before .before .before .before .before .before .before .args .s) (c .before .before .before .before .before .before .before .before .before .before .before .before .before .before .before .before .pre .0) (c .before .before .before .before .before .before .before .before .before .before .before .before .before .before .before .before .pre .1 .1) (c .before .before .before .before .before .before .before .before .before .before .before .before .before .text .ensures) e (search needs) (c .before .before .before .before .before .before .before .before .before .push2 .ensures (now (c .before .before .before .before .before .before .before .before .before .before .before .before .before .before .before .before .args .file)) (search needs)) (c .before .before .before .before .before .if2 .left) (c .before .before .before .bucket .ensures) t (c .before .before .add .ensures)
 
 pub push-new-spec : {M : Type 1} → statement M
 push-new-spec =
@@ -66,6 +68,7 @@ push-new-spec =
     returns-2
     cast-add
     add-add
+    bucket-requires
     add-requires
     same-length-3
     returns-3)

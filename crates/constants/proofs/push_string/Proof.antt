@@ -1,4 +1,5 @@
 -- `push_string` meets its contract.
+use native.Mathlib.Omega.{arith}
 use denote.Ref.{now}
 use Rattle.codegen_state.proofs.Steps.{stays}
 use Rattle.constants.proofs.PushLaws.{push-known, not-known}
@@ -10,7 +11,7 @@ returns : tie.Need-returns
 returns c = λ t. stays (c .if1 .taken) (c .before .before .before .before .pre .0)
 
 find-requires : tie.Need-find-requires
-find-requires c κs = search needs
+find-requires c κs = (c .before .before .before .before .before .pre .1 .0, (c .before .before .before .before .before .pre .0 .long, (omega (arith, c .before .before .before .before .before .pre .0 .constants, c .before .before .before .before .before .pre .0 .values), c .before .before .before .before .before .pre .1 .1 .indexed)))
 
 enum-known-found : tie.Need-enum-known-found
 enum-known-found c = search needs

@@ -411,7 +411,7 @@ abbrev one-below : ℕ → In 3 one-kinds.ps
 one-below t = and 3 one-kinds.ps (falls 3 one-kinds.ps _<_ μ-one t) one.Pre
 
 abbrev adjust-calls : ℕ → adjust-lts.Claims
-adjust-calls t = (keeps-old-reads.Asked, keeps-old-reads.Learnt, for-expr-below t, for-expr.Post, get-value-reads.Asked, get-value-reads.Learnt, adjust-below t, adjust.Post, leaves-none-reads.Asked, leaves-none-reads.Learnt, action-reads.Asked, action-reads.Learnt, assign-value-reads.Asked, assign-value-reads.Learnt,)
+adjust-calls t = (keeps-old-reads.Asked, keeps-old-reads.Learnt, for-expr-below t, for-expr.Post, get-value-reads.Asked, get-value-reads.Learnt, adjust-below t, adjust.Post, leaves-none-reads.Asked, leaves-none-reads.Learnt, action-reads.Asked, action-reads.Learnt, assign-value-reads.Asked, assign-value-reads.Learnt)
 
 adjust-keeps-old-requires : (t : ℕ) → adjust-lts.Need-keeps-old-requires (adjust-calls t) (adjust-at t) adjust.Post
 adjust-keeps-old-requires t c κs = tt
@@ -468,7 +468,7 @@ abbrev args-μ-loop : args-lts.MeasureT-loop
 args-μ-loop file l list₀ scratch₀ n left₀ cur₀ list scratch left cur = left .n
 
 abbrev args-calls : ℕ → args-lts.Claims
-args-calls t = (gen-expr-below t, gen-expr.Post, node-at-reads.Asked, node-at-reads.Learnt, push-count-reads.Asked, push-count-reads.Learnt,)
+args-calls t = (gen-expr-below t, gen-expr.Post, node-at-reads.Asked, node-at-reads.Learnt, push-count-reads.Asked, push-count-reads.Learnt)
 
 args-loop-holds : (t : ℕ) → args-lts.Need-loop-holds (args-calls t) (args-at t) args.Post args-Inv-loop args-μ-loop
 args-loop-holds t c = args-holds _ _ _ _ _ _ ((c .before .before .before .pre .1 .0) .within) ((c .before .before .before .pre .1 .0) .fine) ((c .before .before .before .pre .1 .0) .fits)
@@ -498,7 +498,7 @@ args-returns : (t : ℕ) → args-lts.Need-returns (args-calls t) (args-at t) ar
 args-returns t c = args-done (c .before .before .before .before .before .before .loop .inv) (c .before .before .before .before .if1 .left) (c .before .before .before .before .before .before .before .before .before .before .args .n) (c .before .before .before .before .before .before .before .before .before .before .pre .1 .1) (c .before .before .push-count .ensures (now (c .before .before .before .before .before .before .before .before .before .before .args .file)))
 
 abbrev drag-calls : ℕ → drag-lts.Claims
-drag-calls t = (kid-at-reads.Asked, kid-at-reads.Learnt, list-at-reads.Asked, list-at-reads.Learnt, bit-of-reads.Asked, bit-of-reads.Learnt, push-reads.Asked, push-reads.Learnt, gen-expr-below t, gen-expr.Post, action-down-reads.Asked, action-down-reads.Learnt, no-loop-reads.Asked, no-loop-reads.Learnt, each-below t, each.Post,)
+drag-calls t = (kid-at-reads.Asked, kid-at-reads.Learnt, list-at-reads.Asked, list-at-reads.Learnt, bit-of-reads.Asked, bit-of-reads.Learnt, push-reads.Asked, push-reads.Learnt, gen-expr-below t, gen-expr.Post, action-down-reads.Asked, action-down-reads.Learnt, no-loop-reads.Asked, no-loop-reads.Learnt, each-below t, each.Post)
 
 drag-kid-at-requires : (t : ℕ) → drag-lts.Need-kid-at-requires (drag-calls t) (drag-at t) drag.Post
 drag-kid-at-requires t c κs = ((c .before .before .before .pre .1) .within)
@@ -572,7 +572,7 @@ each-μ-loop2 file l list₀ scratch₀ what lp first default last lo top₀ cur
     last - done
 
 abbrev each-calls : ℕ → each-lts.Claims
-each-calls t = (rest-of-reads.Asked, rest-of-reads.Learnt, one-below t, one.Post, element-at-reads.Asked, element-at-reads.Learnt, is-labelled-reads.Asked, is-labelled-reads.Learnt, is-case-reads.Asked, is-case-reads.Learnt,)
+each-calls t = (rest-of-reads.Asked, rest-of-reads.Learnt, one-below t, one.Post, element-at-reads.Asked, element-at-reads.Learnt, is-labelled-reads.Asked, is-labelled-reads.Learnt, is-case-reads.Asked, is-case-reads.Learnt)
 
 each-sub-lo : (t : ℕ) → each-lts.Need-sub-lo (each-calls t) (each-at t) each.Post each-Inv-loop each-μ-loop each-Inv-loop2 each-μ-loop2
 each-sub-lo t c = omega (arith, (c .before .before .before .before .pre .1 .0) .within .inside)
@@ -671,7 +671,7 @@ each-returns-3 : (t : ℕ) → each-lts.Need-returns-3 (each-calls t) (each-at t
 each-returns-3 t c = pop-done (c .before .before .before .before .before .before .before .before .before .before .before .args .what) (loopOf (c .before .before .before .before .before .before .before .before .before .before .before .args .lp)) (c .before .before .before .before .before .before .before .before .before .before .before .args .first) (c .before .before .before .before .before .before .before .before .before .before .before .args .default) (c .before .loop2 .inv) (c .loop2-test .left) (c .before .before .before .before .before .before .before .before .before .before .before .args .p) refl (omega (arith, (c .before .before .before .before .before .before .before .before .before .before .before .pre .1 .0) .within .inside))
 
 abbrev ends-calls : ℕ → ends-lts.Claims
-ends-calls t = (node-at-reads.Asked, node-at-reads.Learnt, no-loop-reads.Asked, no-loop-reads.Learnt, each-below t, each.Post, gen-expr-below t, gen-expr.Post, action-reads.Asked, action-reads.Learnt, branch-reads.Asked, branch-reads.Learnt,)
+ends-calls t = (node-at-reads.Asked, node-at-reads.Learnt, no-loop-reads.Asked, no-loop-reads.Learnt, each-below t, each.Post, gen-expr-below t, gen-expr.Post, action-reads.Asked, action-reads.Learnt, branch-reads.Asked, branch-reads.Learnt)
 
 ends-returns : (t : ℕ) → ends-lts.Need-returns (ends-calls t) (ends-at t) ends.Post
 ends-returns t c = rw (none-at (now (c .before .before .before .before .before .args .file)) (c .before .before .before .before .before .args .p) (c .if1 .taken)) (idle ((c .before .before .before .before .before .pre .1) .fine))
@@ -704,7 +704,7 @@ ends-returns-2 : (t : ℕ) → ends-lts.Need-returns-2 (ends-calls t) (ends-at t
 ends-returns-2 t c = ends-arm (c .before .before .before .before .before .before .before .before .before .before .before .before .before .before .before .before .before .before .before .before .before .before .before .before .before .before .before .before .before .before .args .l) (c .before .before .before .before .before .before .before .before .before .before .before .before .before .before .before .before .before .before .before .before .before .before .before .before .before .before .before .before .before .before .args .p) (loopOf (c .before .before .before .before .before .before .before .before .before .before .before .before .before .before .before .before .before .before .before .before .before .before .no-loop .result)) (c .before .before .before .before .before .before .before .before .before .before .before .before .before .before .before .before .before .before .before .before .before .before .before .before .before .before .before .before .before .before .args .end) (is-node (now (c .before .before .before .before .before .before .before .before .before .before .before .before .before .before .before .before .before .before .before .before .before .before .before .before .before .before .before .before .before .before .args .file)) (c .before .before .before .before .before .before .before .before .before .before .before .before .before .before .before .before .before .before .before .before .before .before .before .before .before .before .before .before .before .before .args .l) (c .before .before .before .before .before .before .before .before .before .before .before .before .before .before .before .before .before .before .before .before .before .before .before .before .before .before .before .before .before .before .args .p) ((c .before .before .before .before .before .before .before .before .before .before .before .before .before .before .before .before .before .before .before .before .before .before .before .before .before .before .before .before .before .before .pre .1) .within) (c .before .before .before .before .before .before .before .before .before .before .before .before .before .before .before .before .before .before .before .before .before .before .before .before .node-at .ensures)) (c .before .before .before .before .before .before .before .before .before .before .before .before .before .before .before .before .before .before .before .before .before .before .before .before .before .if1 .left) (c .before .before .before .before .before .before .before .before .before .before .before .before .before .before .before .before .before .before .before .each .ensures) (c .before .before .before .before .before .before .before .before .before .before .before .before .gen-expr .ensures) (c .before .before .before .before .before .before .action .ensures (now (c .before .before .before .before .before .before .before .before .before .before .before .before .before .before .before .before .before .before .before .before .before .before .before .before .before .before .before .before .before .before .args .file))) (c .before .before .branch .ensures (now (c .before .before .before .before .before .before .before .before .before .before .before .before .before .before .before .before .before .before .before .before .before .before .before .before .before .before .before .before .before .before .args .file)))
 
 abbrev exit-calls : ℕ → exit-lts.Claims
-exit-calls t = (list-at-reads.Asked, list-at-reads.Learnt, push-reads.Asked, push-reads.Learnt, action-reads.Asked, action-reads.Learnt, no-loop-reads.Asked, no-loop-reads.Learnt, each-below t, each.Post,)
+exit-calls t = (list-at-reads.Asked, list-at-reads.Learnt, push-reads.Asked, push-reads.Learnt, action-reads.Asked, action-reads.Learnt, no-loop-reads.Asked, no-loop-reads.Learnt, each-below t, each.Post)
 
 exit-list-at-requires : (t : ℕ) → exit-lts.Need-list-at-requires (exit-calls t) (exit-at t) exit.Post
 exit-list-at-requires t c κs = ((c .before .before .before .pre .1) .within)
@@ -740,7 +740,7 @@ exit-returns-2 : (t : ℕ) → exit-lts.Need-returns-2 (exit-calls t) (exit-at t
 exit-returns-2 t c = values-arm (c .before .before .before .before .before .before .before .before .before .before .before .before .before .before .before .before .before .before .args .l) (c .before .before .before .before .before .before .before .before .before .before .before .before .before .before .before .before .before .before .args .p) (loopOf (c .before .before .before .before .before .before .before .before .before .before .before .no-loop .result)) (c .before .before .before .before .before .before .before .before .before .before .before .before .before .before .list-at .ensures) (c .before .before .before .before .before .before .before .before .before .before .before .before .if1 .left) (c .before .before .before .before .before .before .before .before .before .before .before .before .before .before .before .before .before .before .args .o) (c .before .before .before .before .before .before .before .before .each .ensures) (c .before .before .action2 .ensures (now (c .before .before .before .before .before .before .before .before .before .before .before .before .before .before .before .before .before .before .args .file)))
 
 abbrev for-expr-calls : ℕ → for-expr-lts.Claims
-for-expr-calls t = (node-at-reads.Asked, node-at-reads.Learnt, shape-of-reads.Asked, shape-of-reads.Learnt, for-constant-reads.Asked, for-constant-reads.Learnt, no-loop-reads.Asked, no-loop-reads.Learnt, each-below t, each.Post, gen-expr-below t, gen-expr.Post,)
+for-expr-calls t = (node-at-reads.Asked, node-at-reads.Learnt, shape-of-reads.Asked, shape-of-reads.Learnt, for-constant-reads.Asked, for-constant-reads.Learnt, no-loop-reads.Asked, no-loop-reads.Learnt, each-below t, each.Post, gen-expr-below t, gen-expr.Post)
 
 for-expr-returns : (t : ℕ) → for-expr-lts.Need-returns (for-expr-calls t) (for-expr-at t) for-expr.Post
 for-expr-returns t c = stays (c .if1 .taken) ((c .before .before .before .before .before .pre .1) .fine)
@@ -812,7 +812,7 @@ for-expr-returns-5 : (t : ℕ) → for-expr-lts.Need-returns-5 (for-expr-calls t
 for-expr-returns-5 t c = rw (access-at (is-node (now (c .before .before .before .before .before .before .before .before .before .before .before .before .before .before .before .before .before .args .file)) (c .before .before .before .before .before .before .before .before .before .before .before .before .before .before .before .before .before .args .l) (c .before .before .before .before .before .before .before .before .before .before .before .before .before .before .before .before .before .args .p) ((c .before .before .before .before .before .before .before .before .before .before .before .before .before .before .before .before .before .pre .1) .within) (c .before .before .before .before .before .before .before .before .before .before .before .node-at .ensures)), ← shape-is (now (c .before .before .before .before .before .before .before .before .before .before .before .before .before .before .before .before .before .args .file)) (c .before .before .before .before .before .before .before .before .before .before .before .node-at .result .root), ← c .before .before .before .before .before .before .before .before .before .shape-of .ensures, (c .before .before .before .before .before .before .before .enum-told3 .given .1)) (direct-arm (c .before .before .before .before .before .before .before .before .before .before .before .before .before .before .before .before .before .args .l) (c .before .before .before .before .before .before .before .before .before .before .before .before .before .before .before .before .before .args .p) (kidAt (now (c .before .before .before .before .before .before .before .before .before .before .before .before .before .before .before .before .before .args .file)) (c .before .before .before .before .before .before .before .before .before .before .before .before .before .before .before .before .before .args .p) 0 .gen-expr false) (c .before .before .before .before .gen-expr2 .ensures) (c .before .before .before .before .gen-expr2 .ensures .fine))
 
 abbrev gen-binary-op-calls : ℕ → gen-binary-op-lts.Claims
-gen-binary-op-calls t = (kid-at-reads.Asked, kid-at-reads.Learnt, plan-of-reads.Asked, plan-of-reads.Learnt, no-loop-reads.Asked, no-loop-reads.Learnt, each-below t, each.Post, action-reads.Asked, action-reads.Learnt, for-expr-below t, for-expr.Post, assign-value-reads.Asked, assign-value-reads.Learnt, gen-expr-below t, gen-expr.Post, create-label-reads.Asked, create-label-reads.Learnt, branch-reads.Asked, branch-reads.Learnt, mark-label-reads.Asked, mark-label-reads.Learnt,)
+gen-binary-op-calls t = (kid-at-reads.Asked, kid-at-reads.Learnt, plan-of-reads.Asked, plan-of-reads.Learnt, no-loop-reads.Asked, no-loop-reads.Learnt, each-below t, each.Post, action-reads.Asked, action-reads.Learnt, for-expr-below t, for-expr.Post, assign-value-reads.Asked, assign-value-reads.Learnt, gen-expr-below t, gen-expr.Post, create-label-reads.Asked, create-label-reads.Learnt, branch-reads.Asked, branch-reads.Learnt, mark-label-reads.Asked, mark-label-reads.Learnt)
 
 gen-binary-op-kid-at-requires : (t : ℕ) → gen-binary-op-lts.Need-kid-at-requires (gen-binary-op-calls t) (gen-binary-op-at t) gen-binary-op.Post
 gen-binary-op-kid-at-requires t c κs = ((c .before .before .before .pre .1) .within)
@@ -983,7 +983,7 @@ gen-binary-op-returns-6 : (t : ℕ) → gen-binary-op-lts.Need-returns-6 (gen-bi
 gen-binary-op-returns-6 t c = rw (← c .before .before .before .before .before .before .before .before .before .before .before .before .before .before .before .before .before .before .before .before .before .before .before .before .before .before .before .before .before .before .before .before .before .plan-of .ensures, (c .before .before .before .before .before .before .before .before .before .before .before .before .before .before .before .before .before .before .before .before .before .before .before .before .before .before .before .before .before .before .before .enum-told3 .given .1)) (or-arm (c .before .before .before .before .before .before .before .before .before .before .before .before .before .before .before .before .before .before .before .before .before .before .before .before .before .before .before .before .before .before .before .before .before .before .before .before .before .before .args .l) (c .before .before .before .before .before .before .before .before .before .before .before .before .before .before .before .before .before .before .before .before .before .before .before .before .before .before .before .before .before .before .before .before .before .before .before .before .before .before .args .p) (c .before .before .before .before .before .before .before .before .before .before .before .before .before .before .before .before .before .before .before .before .before .before .before .before .before .before .before .before .before .before .before .before .before .before .kid-at .ensures) (c .before .before .before .before .before .before .before .before .before .before .before .before .before .before .before .before .before .before .before .before .before .before .before .before .before .before .before .before .before .before .before .before .before .before .before .before .before .before .args .discard) (c .before .before .before .before .before .before .before .before .before .before .before .before .before .before .before .before .before .before .before .before .before .before .before .before .before .before .before .before .before .before .create-label2 .ensures (now (c .before .before .before .before .before .before .before .before .before .before .before .before .before .before .before .before .before .before .before .before .before .before .before .before .before .before .before .before .before .before .before .before .before .before .before .before .before .before .args .file)) _ ((c .before .before .before .before .before .before .before .before .before .before .before .before .before .before .before .before .before .before .before .before .before .before .before .before .before .before .before .before .before .before .before .before .before .before .before .before .before .before .pre .1) .fine)) (c .before .before .before .before .before .before .before .before .before .before .before .before .before .before .before .before .before .before .before .before .before .before .before .before .before .before .before .gen-expr4 .ensures) (c .before .before .before .before .before .before .before .before .before .before .before .before .before .before .before .before .before .before .before .before .before .action8 .ensures (now (c .before .before .before .before .before .before .before .before .before .before .before .before .before .before .before .before .before .before .before .before .before .before .before .before .before .before .before .before .before .before .before .before .before .before .before .before .before .before .args .file))) (c .before .before .before .before .before .before .before .before .before .before .before .before .before .before .before .before .before .branch2 .ensures (now (c .before .before .before .before .before .before .before .before .before .before .before .before .before .before .before .before .before .before .before .before .before .before .before .before .before .before .before .before .before .before .before .before .before .before .before .before .before .before .args .file))) (c .before .before .before .before .before .before .before .before .before .before .before .before .before .action9 .ensures (now (c .before .before .before .before .before .before .before .before .before .before .before .before .before .before .before .before .before .before .before .before .before .before .before .before .before .before .before .before .before .before .before .before .before .before .before .before .before .before .args .file))) (c .before .before .before .before .before .before .before .before .gen-expr5 .ensures) (c .before .before .mark-label2 .ensures (now (c .before .before .before .before .before .before .before .before .before .before .before .before .before .before .before .before .before .before .before .before .before .before .before .before .before .before .before .before .before .before .before .before .before .before .before .before .before .before .args .file))))
 
 abbrev gen-call-calls : ℕ → gen-call-lts.Claims
-gen-call-calls t = (kid-at-reads.Asked, kid-at-reads.Learnt, list-at-reads.Asked, list-at-reads.Learnt, counts-of-reads.Asked, counts-of-reads.Learnt, args-below t, args.Post, for-expr-below t, for-expr.Post, call-new-reads.Asked, call-new-reads.Learnt, call-reads.Asked, call-reads.Learnt,)
+gen-call-calls t = (kid-at-reads.Asked, kid-at-reads.Learnt, list-at-reads.Asked, list-at-reads.Learnt, counts-of-reads.Asked, counts-of-reads.Learnt, args-below t, args.Post, for-expr-below t, for-expr.Post, call-new-reads.Asked, call-new-reads.Learnt, call-reads.Asked, call-reads.Learnt)
 
 gen-call-kid-at-requires : (t : ℕ) → gen-call-lts.Need-kid-at-requires (gen-call-calls t) (gen-call-at t) gen-call.Post
 gen-call-kid-at-requires t c κs = ((c .before .before .before .pre .1) .within)
@@ -1025,7 +1025,7 @@ gen-call-returns-2 : (t : ℕ) → gen-call-lts.Need-returns-2 (gen-call-calls t
 gen-call-returns-2 t c = rw (c .before .before .before .before .if1 .left) (call-arm (c .before .before .before .before .before .before .before .before .before .before .before .before .before .before .before .before .before .before .before .before .before .before .before .before .before .before .args .l) (c .before .before .before .before .before .before .before .before .before .before .before .before .before .before .before .before .before .before .before .before .before .before .before .before .before .before .args .p) (c .before .before .before .before .before .before .before .before .before .before .before .before .before .before .before .before .before .before .before .before .before .before .kid-at .ensures) (c .before .before .before .before .before .before .before .before .before .before .before .before .before .before .before .before .before .before .before .before .before .list-at .ensures) (c .before .before .before .before .before .before .before .before .before .before .before .before .before .before .before .before .before .before .before .before .counts-of .result .trees) (ap (λ (x : Counts). x .trees) (c .before .before .before .before .before .before .before .before .before .before .before .before .before .before .before .before .before .before .before .before .counts-of .ensures)) (c .before .before .before .before .before .before .before .before .before .before .before .before .before .before .before .before .before .args2 .ensures) (c .before .before .before .before .before .before .before .before .before .before .for-expr .ensures) (c .before .before .call .ensures (now (c .before .before .before .before .before .before .before .before .before .before .before .before .before .before .before .before .before .before .before .before .before .before .before .before .before .before .args .file))))
 
 abbrev gen-expr-calls : ℕ → gen-expr-lts.Claims
-gen-expr-calls t = (node-at-reads.Asked, node-at-reads.Learnt, read-constant-reads.Asked, read-constant-reads.Learnt, action-of-reads.Asked, action-of-reads.Learnt, no-loop-reads.Asked, no-loop-reads.Learnt, each-below t, each.Post, action-reads.Asked, action-reads.Learnt, gen-binary-op-below t, gen-binary-op.Post, gen-unary-op-below t, gen-unary-op.Post, gen-call-below t, gen-call.Post, kid-at-reads.Asked, kid-at-reads.Learnt, gen-expr-below t, gen-expr.Post, push-reads.Asked, push-reads.Learnt, gen-ternary-below t, gen-ternary.Post, list-at-reads.Asked, list-at-reads.Learnt, counts-of-reads.Asked, counts-of-reads.Learnt, push-count-reads.Asked, push-count-reads.Learnt, action-down-reads.Asked, action-down-reads.Learnt, args-below t, args.Post, for-expr-below t, for-expr.Post, delete-reads.Asked, delete-reads.Learnt, leaves-value-reads.Asked, leaves-value-reads.Learnt, gen-function-below t, gen-function.Post, goto-below t, goto.Post, drag-below t, drag.Post,)
+gen-expr-calls t = (node-at-reads.Asked, node-at-reads.Learnt, read-constant-reads.Asked, read-constant-reads.Learnt, action-of-reads.Asked, action-of-reads.Learnt, no-loop-reads.Asked, no-loop-reads.Learnt, each-below t, each.Post, action-reads.Asked, action-reads.Learnt, gen-binary-op-below t, gen-binary-op.Post, gen-unary-op-below t, gen-unary-op.Post, gen-call-below t, gen-call.Post, kid-at-reads.Asked, kid-at-reads.Learnt, gen-expr-below t, gen-expr.Post, push-reads.Asked, push-reads.Learnt, gen-ternary-below t, gen-ternary.Post, list-at-reads.Asked, list-at-reads.Learnt, counts-of-reads.Asked, counts-of-reads.Learnt, push-count-reads.Asked, push-count-reads.Learnt, action-down-reads.Asked, action-down-reads.Learnt, args-below t, args.Post, for-expr-below t, for-expr.Post, delete-reads.Asked, delete-reads.Learnt, leaves-value-reads.Asked, leaves-value-reads.Learnt, gen-function-below t, gen-function.Post, goto-below t, goto.Post, drag-below t, drag.Post)
 
 gen-expr-returns : (t : ℕ) → gen-expr-lts.Need-returns (gen-expr-calls t) (gen-expr-at t) gen-expr.Post
 gen-expr-returns t c = stays (c .if1 .taken) ((c .before .before .before .before .before .pre .1) .fine)
@@ -1400,7 +1400,7 @@ gen-expr-same-length-31 : (t : ℕ) → gen-expr-lts.Need-same-length-31 (gen-ex
 gen-expr-same-length-31 t c = c .before .before .before .before .before .before .before .before .before .before .before .before .gen-expr4 .kept .1 .1 .1 .1 .1 .0
 
 gen-expr-returns-18 : (t : ℕ) → gen-expr-lts.Need-returns-18 (gen-expr-calls t) (gen-expr-at t) gen-expr.Post
-gen-expr-returns-18 t c = rw (expr-at (is-node (now (c .before .before .before .before .before .before .before .before .before .before .before .before .before .before .before .before .before .before .before .before .before .before .before .before .before .before .before .before .args .file)) (c .before .before .before .before .before .before .before .before .before .before .before .before .before .before .before .before .before .before .before .before .before .before .before .before .before .before .before .before .args .l) (c .before .before .before .before .before .before .before .before .before .before .before .before .before .before .before .before .before .before .before .before .before .before .before .before .before .before .before .before .args .p) ((c .before .before .before .before .before .before .before .before .before .before .before .before .before .before .before .before .before .before .before .before .before .before .before .before .before .before .before .before .pre .1) .within) (c .before .before .before .before .before .before .before .before .before .before .before .before .before .before .before .before .before .before .before .before .before .before .node-at .ensures)) (c .before .before .before .before .before .before .before .before .before .before .before .before .before .before .before .before .before .before .before .before .before .before .before .before .before .before .before .before .args .discard) (c .before .before .before .before .before .before .before .before .before .before .before .before .before .before .before .before .before .before .before .root .given .1), (c .before .before .before .before .before .before .before .before .before .before .before .before .before .before .before .before .kind8 .given .1)) (get-property-arm (c .before .before .before .before .before .before .before .before .before .before .before .before .before .before .before .before .before .before .before .before .before .before .before .before .before .before .before .before .args .l) (c .before .before .before .before .before .before .before .before .before .before .before .before .before .before .before .before .before .before .before .before .before .before .node-at .result .children) (unsigned (c .before .before .before .before .before .before .before .before .before .before .before .before .before .before .before .before .kind8 .given .0 .0)) (c .before .before .before .before .before .before .before .before .before .before .before .before .gen-expr4 .ensures) (rw (ap unsigned (toZ-ofZ w32 (c .before .before .before .before .before .before .before .before .before .before .before .before .before .before .before .before .kind8 .given .0 .0) (record { sfits = c .before .before .before .before .before .before .before .before .before .before .before .before .before .before .before .known-told9 .given .0 .1 }))) at  (c .before .before .before .before .before .before .push2 .ensures (now (c .before .before .before .before .before .before .before .before .before .before .before .before .before .before .before .before .before .before .before .before .before .before .before .before .before .before .before .before .args .file)) tt)) (c .before .before .action5 .ensures (now (c .before .before .before .before .before .before .before .before .before .before .before .before .before .before .before .before .before .before .before .before .before .before .before .before .before .before .before .before .args .file))))
+gen-expr-returns-18 t c = rw (expr-at (is-node (now (c .before .before .before .before .before .before .before .before .before .before .before .before .before .before .before .before .before .before .before .before .before .before .before .before .before .before .before .before .args .file)) (c .before .before .before .before .before .before .before .before .before .before .before .before .before .before .before .before .before .before .before .before .before .before .before .before .before .before .before .before .args .l) (c .before .before .before .before .before .before .before .before .before .before .before .before .before .before .before .before .before .before .before .before .before .before .before .before .before .before .before .before .args .p) ((c .before .before .before .before .before .before .before .before .before .before .before .before .before .before .before .before .before .before .before .before .before .before .before .before .before .before .before .before .pre .1) .within) (c .before .before .before .before .before .before .before .before .before .before .before .before .before .before .before .before .before .before .before .before .before .before .node-at .ensures)) (c .before .before .before .before .before .before .before .before .before .before .before .before .before .before .before .before .before .before .before .before .before .before .before .before .before .before .before .before .args .discard) (c .before .before .before .before .before .before .before .before .before .before .before .before .before .before .before .before .before .before .before .root .given .1), (c .before .before .before .before .before .before .before .before .before .before .before .before .before .before .before .before .kind8 .given .1)) (get-property-arm (c .before .before .before .before .before .before .before .before .before .before .before .before .before .before .before .before .before .before .before .before .before .before .before .before .before .before .before .before .args .l) (c .before .before .before .before .before .before .before .before .before .before .before .before .before .before .before .before .before .before .before .before .before .before .node-at .result .children) (unsigned (c .before .before .before .before .before .before .before .before .before .before .before .before .before .before .before .before .kind8 .given .0 .0)) (c .before .before .before .before .before .before .before .before .before .before .before .before .gen-expr4 .ensures) (rw (ap unsigned (toZ-ofZ w32 (c .before .before .before .before .before .before .before .before .before .before .before .before .before .before .before .before .kind8 .given .0 .0) (record { sfits = c .before .before .before .before .before .before .before .before .before .before .before .before .before .before .before .known-told9 .given .0 .1 }))) at (c .before .before .before .before .before .before .push2 .ensures (now (c .before .before .before .before .before .before .before .before .before .before .before .before .before .before .before .before .before .before .before .before .before .before .before .before .before .before .before .before .args .file)) tt)) (c .before .before .action5 .ensures (now (c .before .before .before .before .before .before .before .before .before .before .before .before .before .before .before .before .before .before .before .before .before .before .before .before .before .before .before .before .args .file))))
 
 gen-expr-same-length-32 : (t : ℕ) → gen-expr-lts.Need-same-length-32 (gen-expr-calls t) (gen-expr-at t) gen-expr.Post
 gen-expr-same-length-32 t c = c .before .before .action6 .kept .0 ∙ c .before .before .before .before .before .before .before .before .gen-expr6 .kept .1 .1 .1 .1 .0 ∙ c .before .before .before .before .before .before .before .before .before .before .before .before .before .push3 .kept .0 ∙ c .before .before .before .before .before .before .before .before .before .before .before .before .before .before .before .before .before .before .before .gen-expr5 .kept .1 .1 .1 .1 .0
@@ -1409,7 +1409,7 @@ gen-expr-same-length-33 : (t : ℕ) → gen-expr-lts.Need-same-length-33 (gen-ex
 gen-expr-same-length-33 t c = c .before .before .before .before .before .before .before .before .gen-expr6 .kept .1 .1 .1 .1 .1 .0 ∙ c .before .before .before .before .before .before .before .before .before .before .before .before .before .before .before .before .before .before .before .gen-expr5 .kept .1 .1 .1 .1 .1 .0
 
 gen-expr-returns-19 : (t : ℕ) → gen-expr-lts.Need-returns-19 (gen-expr-calls t) (gen-expr-at t) gen-expr.Post
-gen-expr-returns-19 t c = rw (expr-at (is-node (now (c .before .before .before .before .before .before .before .before .before .before .before .before .before .before .before .before .before .before .before .before .before .before .before .before .before .before .before .before .before .before .before .before .before .before .before .before .args .file)) (c .before .before .before .before .before .before .before .before .before .before .before .before .before .before .before .before .before .before .before .before .before .before .before .before .before .before .before .before .before .before .before .before .before .before .before .before .args .l) (c .before .before .before .before .before .before .before .before .before .before .before .before .before .before .before .before .before .before .before .before .before .before .before .before .before .before .before .before .before .before .before .before .before .before .before .before .args .p) ((c .before .before .before .before .before .before .before .before .before .before .before .before .before .before .before .before .before .before .before .before .before .before .before .before .before .before .before .before .before .before .before .before .before .before .before .before .pre .1) .within) (c .before .before .before .before .before .before .before .before .before .before .before .before .before .before .before .before .before .before .before .before .before .before .before .before .before .before .before .before .before .before .node-at .ensures)) (c .before .before .before .before .before .before .before .before .before .before .before .before .before .before .before .before .before .before .before .before .before .before .before .before .before .before .before .before .before .before .before .before .before .before .before .before .args .discard) (c .before .before .before .before .before .before .before .before .before .before .before .before .before .before .before .before .before .before .before .before .before .before .before .before .before .before .before .root .given .1), (c .before .before .before .before .before .before .before .before .before .before .before .before .before .before .before .before .before .before .before .before .before .before .before .before .kind9 .given .1)) (set-property-arm (c .before .before .before .before .before .before .before .before .before .before .before .before .before .before .before .before .before .before .before .before .before .before .before .before .before .before .before .before .before .before .before .before .before .before .before .before .args .l) (c .before .before .before .before .before .before .before .before .before .before .before .before .before .before .before .before .before .before .before .before .before .before .before .before .before .before .before .before .before .before .node-at .result .children) (unsigned (c .before .before .before .before .before .before .before .before .before .before .before .before .before .before .before .before .before .before .before .before .before .before .before .before .kind9 .given .0 .0)) (c .before .before .before .before .before .before .before .before .before .before .before .before .before .before .before .before .before .before .before .before .before .before .kid-at3 .ensures) (c .before .before .before .before .before .before .before .before .before .before .before .before .before .before .before .before .before .before .before .gen-expr5 .ensures) (rw (ap unsigned (toZ-ofZ w32 (c .before .before .before .before .before .before .before .before .before .before .before .before .before .before .before .before .before .before .before .before .before .before .before .before .kind9 .given .0 .0) (record { sfits = c .before .before .before .before .before .before .before .before .before .before .before .before .before .before .before .before .before .before .before .before .before .before .before .known-told10 .given .0 .1 }))) at  (c .before .before .before .before .before .before .before .before .before .before .before .before .before .push3 .ensures (now (c .before .before .before .before .before .before .before .before .before .before .before .before .before .before .before .before .before .before .before .before .before .before .before .before .before .before .before .before .before .before .before .before .before .before .before .before .args .file)) tt)) (c .before .before .before .before .before .before .before .before .gen-expr6 .ensures) (c .before .before .action6 .ensures (now (c .before .before .before .before .before .before .before .before .before .before .before .before .before .before .before .before .before .before .before .before .before .before .before .before .before .before .before .before .before .before .before .before .before .before .before .before .args .file))))
+gen-expr-returns-19 t c = rw (expr-at (is-node (now (c .before .before .before .before .before .before .before .before .before .before .before .before .before .before .before .before .before .before .before .before .before .before .before .before .before .before .before .before .before .before .before .before .before .before .before .before .args .file)) (c .before .before .before .before .before .before .before .before .before .before .before .before .before .before .before .before .before .before .before .before .before .before .before .before .before .before .before .before .before .before .before .before .before .before .before .before .args .l) (c .before .before .before .before .before .before .before .before .before .before .before .before .before .before .before .before .before .before .before .before .before .before .before .before .before .before .before .before .before .before .before .before .before .before .before .before .args .p) ((c .before .before .before .before .before .before .before .before .before .before .before .before .before .before .before .before .before .before .before .before .before .before .before .before .before .before .before .before .before .before .before .before .before .before .before .before .pre .1) .within) (c .before .before .before .before .before .before .before .before .before .before .before .before .before .before .before .before .before .before .before .before .before .before .before .before .before .before .before .before .before .before .node-at .ensures)) (c .before .before .before .before .before .before .before .before .before .before .before .before .before .before .before .before .before .before .before .before .before .before .before .before .before .before .before .before .before .before .before .before .before .before .before .before .args .discard) (c .before .before .before .before .before .before .before .before .before .before .before .before .before .before .before .before .before .before .before .before .before .before .before .before .before .before .before .root .given .1), (c .before .before .before .before .before .before .before .before .before .before .before .before .before .before .before .before .before .before .before .before .before .before .before .before .kind9 .given .1)) (set-property-arm (c .before .before .before .before .before .before .before .before .before .before .before .before .before .before .before .before .before .before .before .before .before .before .before .before .before .before .before .before .before .before .before .before .before .before .before .before .args .l) (c .before .before .before .before .before .before .before .before .before .before .before .before .before .before .before .before .before .before .before .before .before .before .before .before .before .before .before .before .before .before .node-at .result .children) (unsigned (c .before .before .before .before .before .before .before .before .before .before .before .before .before .before .before .before .before .before .before .before .before .before .before .before .kind9 .given .0 .0)) (c .before .before .before .before .before .before .before .before .before .before .before .before .before .before .before .before .before .before .before .before .before .before .kid-at3 .ensures) (c .before .before .before .before .before .before .before .before .before .before .before .before .before .before .before .before .before .before .before .gen-expr5 .ensures) (rw (ap unsigned (toZ-ofZ w32 (c .before .before .before .before .before .before .before .before .before .before .before .before .before .before .before .before .before .before .before .before .before .before .before .before .kind9 .given .0 .0) (record { sfits = c .before .before .before .before .before .before .before .before .before .before .before .before .before .before .before .before .before .before .before .before .before .before .before .known-told10 .given .0 .1 }))) at (c .before .before .before .before .before .before .before .before .before .before .before .before .before .push3 .ensures (now (c .before .before .before .before .before .before .before .before .before .before .before .before .before .before .before .before .before .before .before .before .before .before .before .before .before .before .before .before .before .before .before .before .before .before .before .before .args .file)) tt)) (c .before .before .before .before .before .before .before .before .gen-expr6 .ensures) (c .before .before .action6 .ensures (now (c .before .before .before .before .before .before .before .before .before .before .before .before .before .before .before .before .before .before .before .before .before .before .before .before .before .before .before .before .before .before .before .before .before .before .before .before .args .file))))
 
 gen-expr-same-length-34 : (t : ℕ) → gen-expr-lts.Need-same-length-34 (gen-expr-calls t) (gen-expr-at t) gen-expr.Post
 gen-expr-same-length-34 t c = c .before .before .before .before .gen-expr7 .kept .1 .1 .1 .1 .0
@@ -1454,7 +1454,7 @@ unfolding resolved
 gen-expr-returns-27 t c = rw (no-expr (is-node (now (c .before .before .before .before .before .before .before .before .before .args .file)) (c .before .before .before .before .before .before .before .before .before .args .l) (c .before .before .before .before .before .before .before .before .before .args .p) ((c .before .before .before .before .before .before .before .before .before .pre .1) .within) (c .before .before .before .node-at .ensures)) (c .before .before .before .before .before .before .before .before .before .args .discard) (c .enum-told13 .given .1) refl) (idle ((c .before .before .before .before .before .before .before .before .before .pre .1) .fine))
 
 abbrev gen-for-loop-calls : ℕ → gen-for-loop-lts.Claims
-gen-for-loop-calls t = (create-label-reads.Asked, create-label-reads.Learnt, loop-to-reads.Asked, loop-to-reads.Learnt, kid-at-reads.Asked, kid-at-reads.Learnt, gen-expr-below t, gen-expr.Post, action-reads.Asked, action-reads.Learnt, mark-label-reads.Asked, mark-label-reads.Learnt, store-register-reads.Asked, store-register-reads.Learnt, push-reads.Asked, push-reads.Learnt, branch-reads.Asked, branch-reads.Learnt, gen-target-reads.Asked, gen-target-reads.Learnt, gen-statement-below t, gen-statement.Post, jump-reads.Asked, jump-reads.Learnt, truncate-stack-reads.Asked, truncate-stack-reads.Learnt, list-at-reads.Asked, list-at-reads.Learnt, ends-below t, ends.Post, each-below t, each.Post,)
+gen-for-loop-calls t = (create-label-reads.Asked, create-label-reads.Learnt, loop-to-reads.Asked, loop-to-reads.Learnt, kid-at-reads.Asked, kid-at-reads.Learnt, gen-expr-below t, gen-expr.Post, action-reads.Asked, action-reads.Learnt, mark-label-reads.Asked, mark-label-reads.Learnt, store-register-reads.Asked, store-register-reads.Learnt, push-reads.Asked, push-reads.Learnt, branch-reads.Asked, branch-reads.Learnt, gen-target-reads.Asked, gen-target-reads.Learnt, gen-statement-below t, gen-statement.Post, jump-reads.Asked, jump-reads.Learnt, truncate-stack-reads.Asked, truncate-stack-reads.Learnt, list-at-reads.Asked, list-at-reads.Learnt, ends-below t, ends.Post, each-below t, each.Post)
 
 gen-for-loop-create-label-requires : (t : ℕ) → gen-for-loop-lts.Need-create-label-requires (gen-for-loop-calls t) (gen-for-loop-at t) gen-for-loop.Post
 gen-for-loop-create-label-requires t c κs = tt
@@ -1568,7 +1568,7 @@ gen-for-loop-returns-2 : (t : ℕ) → gen-for-loop-lts.Need-returns-2 (gen-for-
 gen-for-loop-returns-2 t c = rw (c .before .before .before .before .before .before .before .before .before .before .before .before .before .before .before .before .before .before .before .before .before .before .before .before .before .before .before .before .before .before .before .before .before .before .before .before .before .before .before .before .before .before .before .before .before .before .before .before .before .before .before .before .enum-told .given .1) (for-loop-arm (c .before .before .before .before .before .before .before .before .before .before .before .before .before .before .before .before .before .before .before .before .before .before .before .before .before .before .before .before .before .before .before .before .before .before .before .before .before .before .before .before .before .before .before .before .before .before .before .before .before .before .before .before .before .before .before .before .before .before .before .before .args .l) (c .before .before .before .before .before .before .before .before .before .before .before .before .before .before .before .before .before .before .before .before .before .before .before .before .before .before .before .before .before .before .before .before .before .before .before .before .before .before .before .before .before .before .before .before .before .before .before .before .before .before .before .before .before .before .before .before .before .before .before .before .args .p) (c .before .before .before .before .before .before .before .before .before .before .before .before .before .before .before .before .before .before .before .before .before .before .before .before .before .before .before .before .before .before .before .before .before .before .before .before .before .before .before .before .before .before .before .before .before .before .before .before .before .before .before .kid-at2 .ensures) (c .before .before .before .before .before .before .before .before .before .before .before .before .before .before .before .before .before .before .before .before .before .before .before .before .before .before .before .before .before .before .before .before .before .before .before .before .before .before .before .before .before .before .before .before .before .before .before .before .before .before .list-at .ensures) (c .before .before .before .before .before .before .before .before .before .before .before .before .before .before .before .before .before .before .before .before .before .before .before .before .before .before .before .before .before .before .before .before .before .before .before .before .before .before .before .before .before .before .before .before .before .before .before .before .before .list-at2 .ensures) (loopOf (c .before .before .before .before .before .before .before .before .before .before .before .before .before .before .before .before .before .before .before .before .before .before .before .before .before .before .before .before .before .before .before .before .before .before .before .before .before .before .before .before .before .before .before .before .before .before .before .before .before .before .before .before .before .before .loop-to .result)) (c .before .before .before .before .before .before .before .before .before .before .before .before .before .before .before .before .before .before .before .before .before .before .before .before .before .before .before .before .before .before .before .before .before .before .before .before .before .before .before .before .before .before .before .before .before .before .before .before .before .before .before .before .before .before .loop-to .ensures) (c .before .before .before .before .before .before .before .before .before .before .before .before .before .before .before .before .before .before .before .before .before .before .before .before .before .before .before .before .before .before .before .before .before .before .before .before .before .before .before .before .before .before .before .before .before .before .before .before .before .before .before .before .before .before .before .before .create-label .ensures (now (c .before .before .before .before .before .before .before .before .before .before .before .before .before .before .before .before .before .before .before .before .before .before .before .before .before .before .before .before .before .before .before .before .before .before .before .before .before .before .before .before .before .before .before .before .before .before .before .before .before .before .before .before .before .before .before .before .before .before .before .before .args .file)) _ ((c .before .before .before .before .before .before .before .before .before .before .before .before .before .before .before .before .before .before .before .before .before .before .before .before .before .before .before .before .before .before .before .before .before .before .before .before .before .before .before .before .before .before .before .before .before .before .before .before .before .before .before .before .before .before .before .before .before .before .before .before .pre .1 .0) .fine)) (c .before .before .before .before .before .before .before .before .before .before .before .before .before .before .before .before .before .before .before .before .before .before .before .before .before .before .before .before .before .before .before .before .before .before .before .before .before .before .before .before .before .before .before .before .before .before .before .before .before .before .before .before .before .before .before .create-label2 .ensures (now (c .before .before .before .before .before .before .before .before .before .before .before .before .before .before .before .before .before .before .before .before .before .before .before .before .before .before .before .before .before .before .before .before .before .before .before .before .before .before .before .before .before .before .before .before .before .before .before .before .before .before .before .before .before .before .before .before .before .before .before .before .args .file)) _ ((c .before .before .before .before .before .before .before .before .before .before .before .before .before .before .before .before .before .before .before .before .before .before .before .before .before .before .before .before .before .before .before .before .before .before .before .before .before .before .before .before .before .before .before .before .before .before .before .before .before .before .before .before .before .before .before .before .create-label .ensures (now (c .before .before .before .before .before .before .before .before .before .before .before .before .before .before .before .before .before .before .before .before .before .before .before .before .before .before .before .before .before .before .before .before .before .before .before .before .before .before .before .before .before .before .before .before .before .before .before .before .before .before .before .before .before .before .before .before .before .before .before .before .args .file)) _ ((c .before .before .before .before .before .before .before .before .before .before .before .before .before .before .before .before .before .before .before .before .before .before .before .before .before .before .before .before .before .before .before .before .before .before .before .before .before .before .before .before .before .before .before .before .before .before .before .before .before .before .before .before .before .before .before .before .before .before .before .before .pre .1 .0) .fine)) .fine)) (c .before .before .before .before .before .before .before .before .before .before .before .before .before .before .before .before .before .before .before .before .before .before .before .before .before .before .before .before .before .before .before .before .before .before .before .before .before .before .before .before .before .before .before .before .before .before .gen-statement2 .ensures) (c .before .before .before .before .before .before .before .before .before .before .before .before .before .before .before .before .before .before .before .before .before .before .before .before .before .before .before .before .before .before .before .before .before .before .before .before .before .before .before .before .before .create-label3 .ensures (now (c .before .before .before .before .before .before .before .before .before .before .before .before .before .before .before .before .before .before .before .before .before .before .before .before .before .before .before .before .before .before .before .before .before .before .before .before .before .before .before .before .before .before .before .before .before .before .before .before .before .before .before .before .before .before .before .before .before .before .before .before .args .file)) _ ((c .before .before .before .before .before .before .before .before .before .before .before .before .before .before .before .before .before .before .before .before .before .before .before .before .before .before .before .before .before .before .before .before .before .before .before .before .before .before .before .before .before .before .before .before .before .before .gen-statement2 .ensures) .fine)) (c .before .before .before .before .before .before .before .before .before .before .before .before .before .before .before .before .before .before .before .before .before .before .before .before .before .before .before .before .before .before .before .before .before .before .before .before .before .before .before .mark-label3 .ensures (now (c .before .before .before .before .before .before .before .before .before .before .before .before .before .before .before .before .before .before .before .before .before .before .before .before .before .before .before .before .before .before .before .before .before .before .before .before .before .before .before .before .before .before .before .before .before .before .before .before .before .before .before .before .before .before .before .before .before .before .before .before .args .file))) (c .before .before .before .before .before .before .before .before .before .before .before .before .before .before .before .before .before .before .before .before .before .before .before .before .before .before .before .before .before .before .before .before .before .before .ends .ensures) (c .before .before .before .before .before .before .before .before .before .before .before .before .before .before .before .before .before .before .before .before .before .before .before .before .before .before .before .gen-statement3 .ensures) (c .before .before .before .before .before .before .before .before .before .before .before .before .before .before .before .before .before .before .before .before .before .mark-label4 .ensures (now (c .before .before .before .before .before .before .before .before .before .before .before .before .before .before .before .before .before .before .before .before .before .before .before .before .before .before .before .before .before .before .before .before .before .before .before .before .before .before .before .before .before .before .before .before .before .before .before .before .before .before .before .before .before .before .before .before .before .before .before .before .args .file))) (c .before .before .before .before .before .before .before .before .before .before .before .before .before .before .before .before .each .ensures) (c .before .before .before .before .before .before .before .before .before .before .jump2 .ensures (now (c .before .before .before .before .before .before .before .before .before .before .before .before .before .before .before .before .before .before .before .before .before .before .before .before .before .before .before .before .before .before .before .before .before .before .before .before .before .before .before .before .before .before .before .before .before .before .before .before .before .before .before .before .before .before .before .before .before .before .before .before .args .file))) (c .before .before .before .before .before .before .truncate-stack2 .ensures (now (c .before .before .before .before .before .before .before .before .before .before .before .before .before .before .before .before .before .before .before .before .before .before .before .before .before .before .before .before .before .before .before .before .before .before .before .before .before .before .before .before .before .before .before .before .before .before .before .before .before .before .before .before .before .before .before .before .before .before .before .before .args .file))) (c .before .before .mark-label5 .ensures (now (c .before .before .before .before .before .before .before .before .before .before .before .before .before .before .before .before .before .before .before .before .before .before .before .before .before .before .before .before .before .before .before .before .before .before .before .before .before .before .before .before .before .before .before .before .before .before .before .before .before .before .before .before .before .before .before .before .before .before .before .before .args .file))))
 
 abbrev gen-function-calls : ℕ → gen-function-lts.Claims
-gen-function-calls t = (list-at-reads.Asked, list-at-reads.Learnt, word-of-reads.Asked, word-of-reads.Learnt, begin-function-reads.Asked, begin-function-reads.Learnt, no-loop-reads.Asked, no-loop-reads.Learnt, gen-statements-below t, gen-statements.Post, end-function-reads.Asked, end-function-reads.Learnt,)
+gen-function-calls t = (list-at-reads.Asked, list-at-reads.Learnt, word-of-reads.Asked, word-of-reads.Learnt, begin-function-reads.Asked, begin-function-reads.Learnt, no-loop-reads.Asked, no-loop-reads.Learnt, gen-statements-below t, gen-statements.Post, end-function-reads.Asked, end-function-reads.Learnt)
 
 gen-function-list-at-requires : (t : ℕ) → gen-function-lts.Need-list-at-requires (gen-function-calls t) (gen-function-at t) gen-function.Post
 gen-function-list-at-requires t c κs = ((c .before .before .before .pre .1 .0) .within)
@@ -1598,7 +1598,7 @@ gen-function-returns : (t : ℕ) → gen-function-lts.Need-returns (gen-function
 gen-function-returns t c = λ nf mv. rw (← c .before .before .before .before .before .before .before .before .before .before .before .before .before .word-of .ensures) (function-done (now (c .before .before .before .before .before .before .before .before .before .before .before .before .before .before .before .before .before .before .args .file)) _ (c .before .before .before .before .before .before .before .before .before .before .before .before .before .before .before .before .before .before .args .b) _ ((c .before .before .before .before .before .before .before .before .before .before .before .before .before .before .before .before .before .before .pre .1 .0) .fine) (rw (c .before .before .before .before .before .before .before .before .before .before .before .before .begin-function .ensures, c .before .before .before .before .before .before .before .before .before .before .before .no-loop .ensures, ← c .before .before .before .before .before .before .before .before .before .before .before .before .before .before .list-at .ensures .means) at (c .before .before .before .before .before .before .before .before .gen-statements .ensures)) _ (c .before .before .end-function .ensures (now (c .before .before .before .before .before .before .before .before .before .before .before .before .before .before .before .before .before .before .args .file)) (rw (c .before .before .before .before .before .before .before .before .before .before .before .before .before .word-of .ensures) nf) (rw (c .before .before .before .before .before .before .before .before .before .before .before .before .before .word-of .ensures) mv)))
 
 abbrev gen-if-calls : ℕ → gen-if-lts.Claims
-gen-if-calls t = (kid-at-reads.Asked, kid-at-reads.Learnt, node-at-reads.Asked, node-at-reads.Learnt, create-label-reads.Asked, create-label-reads.Learnt, gen-expr-below t, gen-expr.Post, action-reads.Asked, action-reads.Learnt, is-present-reads.Asked, is-present-reads.Learnt, branch-reads.Asked, branch-reads.Learnt, gen-statement-below t, gen-statement.Post, jump-reads.Asked, jump-reads.Learnt, mark-label-reads.Asked, mark-label-reads.Learnt,)
+gen-if-calls t = (kid-at-reads.Asked, kid-at-reads.Learnt, node-at-reads.Asked, node-at-reads.Learnt, create-label-reads.Asked, create-label-reads.Learnt, gen-expr-below t, gen-expr.Post, action-reads.Asked, action-reads.Learnt, is-present-reads.Asked, is-present-reads.Learnt, branch-reads.Asked, branch-reads.Learnt, gen-statement-below t, gen-statement.Post, jump-reads.Asked, jump-reads.Learnt, mark-label-reads.Asked, mark-label-reads.Learnt)
 
 gen-if-kid-at-requires : (t : ℕ) → gen-if-lts.Need-kid-at-requires (gen-if-calls t) (gen-if-at t) gen-if.Post
 gen-if-kid-at-requires t c κs = ((c .before .before .before .pre .1) .within)
@@ -1670,7 +1670,7 @@ gen-if-returns-2 : (t : ℕ) → gen-if-lts.Need-returns-2 (gen-if-calls t) (gen
 gen-if-returns-2 t c = if-one-arm (c .before .before .before .before .before .before .before .before .before .before .before .before .before .before .before .before .before .before .before .before .before .before .before .before .before .before .before .before .before .before .before .before .before .before .before .args .l) (c .before .before .before .before .before .before .before .before .before .before .before .before .before .before .before .before .before .before .before .before .before .before .before .before .before .before .before .before .before .before .before .before .before .before .before .args .p) (loopOf (c .before .before .before .before .before .before .before .before .before .before .before .before .before .before .before .before .before .before .before .before .before .before .before .before .before .before .before .before .before .before .before .before .before .before .before .args .lp)) (c .before .before .before .before .before .before .before .before .before .before .before .before .before .before .before .before .before .before .before .before .before .before .before .before .before .before .before .before .before .before .before .kid-at .ensures) (c .before .before .before .before .before .before .before .before .before .before .before .before .before .before .before .before .before .before .before .before .before .before .before .before .before .before .before .before .before .before .kid-at2 .ensures) (ap present (rec-is (is-node (now (c .before .before .before .before .before .before .before .before .before .before .before .before .before .before .before .before .before .before .before .before .before .before .before .before .before .before .before .before .before .before .before .before .before .before .before .args .file)) (c .before .before .before .before .before .before .before .before .before .before .before .before .before .before .before .before .before .before .before .before .before .before .before .before .before .before .before .before .before .before .before .before .before .before .before .args .l) (c .before .before .before .before .before .before .before .before .before .before .before .before .before .before .before .before .before .before .before .before .before .before .before .before .before .before .before .before .before .before .before .before .before .before .before .args .p) ((c .before .before .before .before .before .before .before .before .before .before .before .before .before .before .before .before .before .before .before .before .before .before .before .before .before .before .before .before .before .before .before .before .before .before .before .pre .1) .within) (c .before .before .before .before .before .before .before .before .before .before .before .before .before .before .before .before .before .before .before .before .before .before .before .before .before .before .before .before .before .node-at .ensures))) ∙ sym (c .before .before .before .before .before .before .before .before .before .before .before .before .before .before .before .before .is-present .ensures (now (c .before .before .before .before .before .before .before .before .before .before .before .before .before .before .before .before .before .before .before .before .before .before .before .before .before .before .before .before .before .before .before .before .before .before .before .args .file))) ∙ c .before .before .before .before .before .before .before .before .before .before .before .before .before .before .before .if1 .left) (c .before .before .before .before .before .before .before .before .before .before .before .before .before .before .before .before .before .before .before .before .before .before .before .before .before .before .before .before .create-label .ensures (now (c .before .before .before .before .before .before .before .before .before .before .before .before .before .before .before .before .before .before .before .before .before .before .before .before .before .before .before .before .before .before .before .before .before .before .before .args .file)) _ ((c .before .before .before .before .before .before .before .before .before .before .before .before .before .before .before .before .before .before .before .before .before .before .before .before .before .before .before .before .before .before .before .before .before .before .before .pre .1) .fine)) (c .before .before .before .before .before .before .before .before .before .before .before .before .before .before .before .before .before .before .before .before .before .before .before .before .before .gen-expr .ensures) (c .before .before .before .before .before .before .before .before .before .before .before .before .before .before .before .before .before .before .before .action .ensures (now (c .before .before .before .before .before .before .before .before .before .before .before .before .before .before .before .before .before .before .before .before .before .before .before .before .before .before .before .before .before .before .before .before .before .before .before .args .file))) (c .before .before .before .before .before .before .before .before .before .before .before .before .before .branch2 .ensures (now (c .before .before .before .before .before .before .before .before .before .before .before .before .before .before .before .before .before .before .before .before .before .before .before .before .before .before .before .before .before .before .before .before .before .before .before .args .file))) (c .before .before .before .before .before .before .before .before .gen-statement3 .ensures) (c .before .before .mark-label3 .ensures (now (c .before .before .before .before .before .before .before .before .before .before .before .before .before .before .before .before .before .before .before .before .before .before .before .before .before .before .before .before .before .before .before .before .before .before .before .args .file)))
 
 abbrev gen-statement-calls : ℕ → gen-statement-lts.Claims
-gen-statement-calls t = (node-at-reads.Asked, node-at-reads.Learnt, push-string-reads.Asked, push-string-reads.Learnt, is-present-reads.Asked, is-present-reads.Learnt, gen-expr-below t, gen-expr.Post, action-reads.Asked, action-reads.Learnt, exit-below t, exit.Post, truncate-stack-reads.Asked, truncate-stack-reads.Learnt, list-at-reads.Asked, list-at-reads.Learnt, gen-statements-below t, gen-statements.Post, gen-for-loop-below t, gen-for-loop.Post, gen-while-loop-below t, gen-while-loop.Post, gen-if-below t, gen-if.Post, jump-to-reads.Asked, jump-to-reads.Learnt, gen-switch-below t, gen-switch.Post,)
+gen-statement-calls t = (node-at-reads.Asked, node-at-reads.Learnt, push-string-reads.Asked, push-string-reads.Learnt, is-present-reads.Asked, is-present-reads.Learnt, gen-expr-below t, gen-expr.Post, action-reads.Asked, action-reads.Learnt, exit-below t, exit.Post, truncate-stack-reads.Asked, truncate-stack-reads.Learnt, list-at-reads.Asked, list-at-reads.Learnt, gen-statements-below t, gen-statements.Post, gen-for-loop-below t, gen-for-loop.Post, gen-while-loop-below t, gen-while-loop.Post, gen-if-below t, gen-if.Post, jump-to-reads.Asked, jump-to-reads.Learnt, gen-switch-below t, gen-switch.Post)
 
 gen-statement-returns : (t : ℕ) → gen-statement-lts.Need-returns (gen-statement-calls t) (gen-statement-at t) gen-statement.Post
 gen-statement-returns t c = stays (c .if1 .taken) ((c .before .before .before .before .before .pre .1) .fine)
@@ -1927,7 +1927,7 @@ unfolding resolved
 gen-statement-returns-21 t c = rw (no-statement (is-node (now (c .before .before .before .before .before .before .before .before .before .args .file)) (c .before .before .before .before .before .before .before .before .before .args .l) (c .before .before .before .before .before .before .before .before .before .args .p) ((c .before .before .before .before .before .before .before .before .before .pre .1) .within) (c .before .before .before .node-at .ensures)) (loopOf (c .before .before .before .before .before .before .before .before .before .args .lp)) (c .enum-told13 .given .1) refl) (idle ((c .before .before .before .before .before .before .before .before .before .pre .1) .fine))
 
 abbrev gen-statements-calls : ℕ → gen-statements-lts.Claims
-gen-statements-calls t = (has-hoisted-reads.Asked, has-hoisted-reads.Learnt, each-below t, each.Post,)
+gen-statements-calls t = (has-hoisted-reads.Asked, has-hoisted-reads.Learnt, each-below t, each.Post)
 
 gen-statements-has-hoisted-requires : (t : ℕ) → gen-statements-lts.Need-has-hoisted-requires (gen-statements-calls t) (gen-statements-at t) gen-statements.Post
 gen-statements-has-hoisted-requires t c κs = ((c .before .before .before .pre .1) .within)
@@ -1960,7 +1960,7 @@ gen-statements-returns-2 : (t : ℕ) → gen-statements-lts.Need-returns-2 (gen-
 gen-statements-returns-2 t c = statements-arm (c .before .before .before .before .before .before .before .before .before .before .before .before .before .before .before .before .before .before .before .args .l) (c .before .before .before .before .before .before .before .before .before .before .before .before .before .before .before .before .before .before .before .args .p) (loopOf (c .before .before .before .before .before .before .before .before .before .before .before .before .before .before .before .before .before .before .before .args .lp)) (c .before .before .before .before .before .before .before .before .before .before .before .each2 .ensures) (c .before .before .before .before .each3 .ensures)
 
 abbrev gen-switch-calls : ℕ → gen-switch-lts.Claims
-gen-switch-calls t = (list-at-reads.Asked, list-at-reads.Learnt, counts-of-reads.Asked, counts-of-reads.Learnt, create-label-reads.Asked, create-label-reads.Learnt, create-labels-reads.Asked, create-labels-reads.Learnt, default-label-reads.Asked, default-label-reads.Learnt, with-exit-reads.Asked, with-exit-reads.Learnt, jump-reads.Asked, jump-reads.Learnt, each-below t, each.Post, mark-label-reads.Asked, mark-label-reads.Learnt, kid-at-reads.Asked, kid-at-reads.Learnt, gen-expr-below t, gen-expr.Post, store-register-reads.Asked, store-register-reads.Learnt, no-loop-reads.Asked, no-loop-reads.Learnt,)
+gen-switch-calls t = (list-at-reads.Asked, list-at-reads.Learnt, counts-of-reads.Asked, counts-of-reads.Learnt, create-label-reads.Asked, create-label-reads.Learnt, create-labels-reads.Asked, create-labels-reads.Learnt, default-label-reads.Asked, default-label-reads.Learnt, with-exit-reads.Asked, with-exit-reads.Learnt, jump-reads.Asked, jump-reads.Learnt, each-below t, each.Post, mark-label-reads.Asked, mark-label-reads.Learnt, kid-at-reads.Asked, kid-at-reads.Learnt, gen-expr-below t, gen-expr.Post, store-register-reads.Asked, store-register-reads.Learnt, no-loop-reads.Asked, no-loop-reads.Learnt)
 
 gen-switch-list-at-requires : (t : ℕ) → gen-switch-lts.Need-list-at-requires (gen-switch-calls t) (gen-switch-at t) gen-switch.Post
 gen-switch-list-at-requires t c κs = ((c .before .before .before .pre .1) .within)
@@ -2038,7 +2038,7 @@ gen-switch-returns-4 : (t : ℕ) → gen-switch-lts.Need-returns-4 (gen-switch-c
 gen-switch-returns-4 t c = switch-cases-arm (c .before .before .before .before .before .before .before .before .before .before .before .before .before .before .before .before .before .before .before .before .before .before .before .before .before .before .before .before .before .before .before .before .before .before .before .before .before .before .before .before .before .before .before .before .before .before .before .before .before .before .args .l) (c .before .before .before .before .before .before .before .before .before .before .before .before .before .before .before .before .before .before .before .before .before .before .before .before .before .before .before .before .before .before .before .before .before .before .before .before .before .before .before .before .before .before .before .before .before .before .before .before .before .before .args .p) (loopOf (c .before .before .before .before .before .before .before .before .before .before .before .before .before .before .before .before .before .before .before .before .before .before .before .before .before .before .before .before .before .before .before .before .before .before .before .before .before .before .before .before .before .before .before .before .before .before .before .before .before .before .args .lp)) (loopOf (c .before .before .before .before .before .before .before .before .before .before .before .before .before .before .before .before .before .before .before .before .before .before .before .before .before .before .before .before .before .before .before .before .before .before .before .before .before .with-exit .result)) _ _ (c .before .before .before .before .before .before .before .before .before .before .before .before .before .before .before .before .before .before .before .before .before .before .before .before .before .before .before .before .before .before .before .before .before .before .before .before .before .before .before .before .before .before .before .before .before .before .list-at .ensures) (switching (c .before .before .before .before .before .before .before .before .before .before .before .before .before .before .before .before .before .before .before .before .before .before .before .before .before .before .before .before .before .before .before .before .before .before .before .before .before .before .before .before .before .before .before .before .before .before .list-at .ensures) (c .before .before .before .before .before .before .before .before .before .before .before .before .before .before .before .before .before .before .before .before .before .before .before .before .before .before .before .before .before .before .before .before .before .before .before .before .before .before .before .before .before .before .before .before .before .counts-of .ensures) _ _ (omega (arith, (c .before .before .before .before .before .before .before .before .before .before .before .before .before .before .before .before .before .before .before .before .before .before .before .before .before .before .before .before .before .before .before .before .before .before .before .before .before .before .before .before .before .before .before .before .before .before .before .before .before .before .pre .1) .within .known, (c .before .before .before .before .before .before .before .before .before .before .before .before .before .before .before .before .before .before .before .before .before .before .before .before .before .before .before .before .before .before .before .before .before .before .before .before .before .before .before .before .before .before .before .before .before .before .before .before .before .before .pre .1) .within .sound .few, (c .before .before .before .before .before .before .before .before .before .before .before .before .before .before .before .before .before .before .before .before .before .before .before .before .before .before .before .before .before .before .before .before .before .before .before .before .before .before .before .before .before .before .before .before .before .before .before .before .before .before .pre .1) .within .inside, (c .before .before .before .before .before .before .before .before .before .before .before .before .before .before .before .before .before .before .before .before .before .before .before .before .before .before .before .before .before .before .before .before .before .before .before .before .before .before .before .before .before .before .before .before .create-label .ensures (now (c .before .before .before .before .before .before .before .before .before .before .before .before .before .before .before .before .before .before .before .before .before .before .before .before .before .before .before .before .before .before .before .before .before .before .before .before .before .before .before .before .before .before .before .before .before .before .before .before .before .before .args .file)) _ ((c .before .before .before .before .before .before .before .before .before .before .before .before .before .before .before .before .before .before .before .before .before .before .before .before .before .before .before .before .before .before .before .before .before .before .before .before .before .before .before .before .before .before .before .before .before .before .before .before .before .before .pre .1) .fine)) .fine .labels)) (c .before .before .before .before .before .before .before .before .before .before .before .before .before .before .before .before .before .before .before .before .before .before .before .before .before .before .before .before .before .before .before .before .before .before .before .before .before .before .default-label .ensures)) (c .before .before .before .before .before .before .before .before .before .before .before .before .before .before .before .before .before .before .before .before .before .before .before .before .before .before .before .before .before .before .before .before .before .before .before .before .before .with-exit .ensures) (some-labels (now (c .before .before .before .before .before .before .before .before .before .before .before .before .before .before .before .before .before .before .before .before .before .before .before .before .before .before .before .before .before .before .before .before .before .before .before .before .before .before .before .before .before .before .before .before .before .before .before .before .before .before .args .file)) (c .before .before .before .before .before .before .before .before .before .before .before .before .before .before .before .before .before .before .before .before .before .before .before .before .before .before .before .before .before .before .before .before .before .before .before .before .before .before .before .before .before .before .before .before .before .before .before .before .before .before .args .p) (c .before .before .before .before .before .before .before .before .before .before .before .before .before .before .before .before .before .before .before .before .before .before .before .before .before .before .before .before .before .before .before .before .before .before .before .before .before .before .before .before .before .before .before .before .create-label .result .labels) (λ z. (c .before .before .before .before .before .before .before .before .before .before .before .before .before .before .before .before .before .before .before .before .before .before .before .before .before .before .before .before .before .before .before .before .before .before .before .before .before .before .before .if2 .left) (sym (labels-counted (c .before .before .before .before .before .before .before .before .before .before .before .before .before .before .before .before .before .before .before .before .before .before .before .before .before .before .before .before .before .before .before .before .before .before .before .before .before .before .before .before .before .before .before .before .before .before .list-at .ensures) (c .before .before .before .before .before .before .before .before .before .before .before .before .before .before .before .before .before .before .before .before .before .before .before .before .before .before .before .before .before .before .before .before .before .before .before .before .before .before .before .before .before .before .before .before .before .counts-of .ensures)) ∙ z))) (c .before .before .before .before .before .before .before .before .before .before .before .before .before .before .before .before .before .before .before .before .before .before .before .before .before .before .before .before .before .before .before .before .before .before .before .before .before .before .before .before .before .before .before .before .create-label .ensures (now (c .before .before .before .before .before .before .before .before .before .before .before .before .before .before .before .before .before .before .before .before .before .before .before .before .before .before .before .before .before .before .before .before .before .before .before .before .before .before .before .before .before .before .before .before .before .before .before .before .before .before .args .file)) _ ((c .before .before .before .before .before .before .before .before .before .before .before .before .before .before .before .before .before .before .before .before .before .before .before .before .before .before .before .before .before .before .before .before .before .before .before .before .before .before .before .before .before .before .before .before .before .before .before .before .before .before .pre .1) .fine)) (c .before .before .before .before .before .before .before .before .before .before .before .before .before .before .before .before .before .before .before .before .before .before .before .before .before .before .before .before .before .before .before .before .before .before .before .before .before .before .before .before .before .before .before .create-labels .ensures (now (c .before .before .before .before .before .before .before .before .before .before .before .before .before .before .before .before .before .before .before .before .before .before .before .before .before .before .before .before .before .before .before .before .before .before .before .before .before .before .before .before .before .before .before .before .before .before .before .before .before .before .args .file)) _ (listAt (now (c .before .before .before .before .before .before .before .before .before .before .before .before .before .before .before .before .before .before .before .before .before .before .before .before .before .before .before .before .before .before .before .before .before .before .before .before .before .before .before .before .before .before .before .before .before .before .before .before .before .before .args .file)) (c .before .before .before .before .before .before .before .before .before .before .before .before .before .before .before .before .before .before .before .before .before .before .before .before .before .before .before .before .before .before .before .before .before .before .before .before .before .before .before .before .before .before .before .before .before .before .before .before .before .before .args .p) 0) ((c .before .before .before .before .before .before .before .before .before .before .before .before .before .before .before .before .before .before .before .before .before .before .before .before .before .before .before .before .before .before .before .before .before .before .before .before .before .before .before .before .before .before .before .before .create-label .ensures (now (c .before .before .before .before .before .before .before .before .before .before .before .before .before .before .before .before .before .before .before .before .before .before .before .before .before .before .before .before .before .before .before .before .before .before .before .before .before .before .before .before .before .before .before .before .before .before .before .before .before .before .args .file)) _ ((c .before .before .before .before .before .before .before .before .before .before .before .before .before .before .before .before .before .before .before .before .before .before .before .before .before .before .before .before .before .before .before .before .before .before .before .before .before .before .before .before .before .before .before .before .before .before .before .before .before .before .pre .1) .fine)) .fine) (labels-counted (c .before .before .before .before .before .before .before .before .before .before .before .before .before .before .before .before .before .before .before .before .before .before .before .before .before .before .before .before .before .before .before .before .before .before .before .before .before .before .before .before .before .before .before .before .before .before .list-at .ensures) (c .before .before .before .before .before .before .before .before .before .before .before .before .before .before .before .before .before .before .before .before .before .before .before .before .before .before .before .before .before .before .before .before .before .before .before .before .before .before .before .before .before .before .before .before .before .counts-of .ensures))) (tests-arm (c .before .before .before .before .before .before .before .before .before .before .before .before .before .before .before .before .before .before .before .before .before .before .before .before .before .before .before .before .before .before .before .before .before .before .before .before .before .before .before .before .before .before .before .before .before .before .before .before .before .before .args .l) (c .before .before .before .before .before .before .before .before .before .before .before .before .before .before .before .before .before .before .before .before .before .before .before .before .before .before .before .before .before .before .before .before .before .before .before .before .before .before .before .before .before .before .before .before .before .before .before .before .before .before .args .p) (loopOf (c .before .before .before .before .before .before .before .before .before .before .before .before .before .before .before .before .before .before .before .before .before .before .no-loop .result)) _ 0 _ (c .before .before .before .before .before .before .before .before .before .before .before .before .before .before .before .before .before .before .before .before .before .before .before .before .before .before .before .before .before .before .before .before .before .before .kid-at .ensures) (c .before .before .before .before .before .before .before .before .before .before .before .before .before .before .before .before .before .before .before .before .before .before .before .before .before .before .before .before .before .before .before .before .before .before .before .before .before .before .before .before .before .before .before .before .before .before .list-at .ensures) ((switching (c .before .before .before .before .before .before .before .before .before .before .before .before .before .before .before .before .before .before .before .before .before .before .before .before .before .before .before .before .before .before .before .before .before .before .before .before .before .before .before .before .before .before .before .before .before .before .list-at .ensures) (c .before .before .before .before .before .before .before .before .before .before .before .before .before .before .before .before .before .before .before .before .before .before .before .before .before .before .before .before .before .before .before .before .before .before .before .before .before .before .before .before .before .before .before .before .before .counts-of .ensures) _ _ (omega (arith, (c .before .before .before .before .before .before .before .before .before .before .before .before .before .before .before .before .before .before .before .before .before .before .before .before .before .before .before .before .before .before .before .before .before .before .before .before .before .before .before .before .before .before .before .before .before .before .before .before .before .before .pre .1) .within .known, (c .before .before .before .before .before .before .before .before .before .before .before .before .before .before .before .before .before .before .before .before .before .before .before .before .before .before .before .before .before .before .before .before .before .before .before .before .before .before .before .before .before .before .before .before .before .before .before .before .before .before .pre .1) .within .sound .few, (c .before .before .before .before .before .before .before .before .before .before .before .before .before .before .before .before .before .before .before .before .before .before .before .before .before .before .before .before .before .before .before .before .before .before .before .before .before .before .before .before .before .before .before .before .before .before .before .before .before .before .pre .1) .within .inside, (c .before .before .before .before .before .before .before .before .before .before .before .before .before .before .before .before .before .before .before .before .before .before .before .before .before .before .before .before .before .before .before .before .before .before .before .before .before .before .before .before .before .before .before .before .create-label .ensures (now (c .before .before .before .before .before .before .before .before .before .before .before .before .before .before .before .before .before .before .before .before .before .before .before .before .before .before .before .before .before .before .before .before .before .before .before .before .before .before .before .before .before .before .before .before .before .before .before .before .before .before .args .file)) _ ((c .before .before .before .before .before .before .before .before .before .before .before .before .before .before .before .before .before .before .before .before .before .before .before .before .before .before .before .before .before .before .before .before .before .before .before .before .before .before .before .before .before .before .before .before .before .before .before .before .before .before .pre .1) .fine)) .fine .labels)) (c .before .before .before .before .before .before .before .before .before .before .before .before .before .before .before .before .before .before .before .before .before .before .before .before .before .before .before .before .before .before .before .before .before .before .before .before .before .before .default-label .ensures)) .testing) (c .before .before .before .before .before .before .before .before .before .before .before .before .before .before .before .before .before .before .before .before .before .before .before .before .before .before .before .before .before .before .before .before .before .before .before .if3 .left) (c .before .before .before .before .before .before .before .before .before .before .before .before .before .before .before .before .before .before .before .before .before .before .before .before .before .before .before .before .before .before .before .gen-expr .ensures) (c .before .before .before .before .before .before .before .before .before .before .before .before .before .before .before .before .before .before .before .before .before .before .before .before .before .store-register .ensures (now (c .before .before .before .before .before .before .before .before .before .before .before .before .before .before .before .before .before .before .before .before .before .before .before .before .before .before .before .before .before .before .before .before .before .before .before .before .before .before .before .before .before .before .before .before .before .before .before .before .before .before .args .file))) (c .before .before .before .before .before .before .before .before .before .before .before .before .before .before .before .before .before .before .before .each2 .ensures)) (c .before .before .before .before .before .before .before .before .before .before .before .before .before .jump2 .ensures (now (c .before .before .before .before .before .before .before .before .before .before .before .before .before .before .before .before .before .before .before .before .before .before .before .before .before .before .before .before .before .before .before .before .before .before .before .before .before .before .before .before .before .before .before .before .before .before .before .before .before .before .args .file))) (c .before .before .before .before .before .before .before .before .each3 .ensures) (c .before .before .mark-label2 .ensures (now (c .before .before .before .before .before .before .before .before .before .before .before .before .before .before .before .before .before .before .before .before .before .before .before .before .before .before .before .before .before .before .before .before .before .before .before .before .before .before .before .before .before .before .before .before .before .before .before .before .before .before .args .file)))
 
 abbrev gen-ternary-calls : ℕ → gen-ternary-lts.Claims
-gen-ternary-calls t = (kid-at-reads.Asked, kid-at-reads.Learnt, create-label-reads.Asked, create-label-reads.Learnt, gen-expr-below t, gen-expr.Post, branch-reads.Asked, branch-reads.Learnt, jump-reads.Asked, jump-reads.Learnt, mark-label-reads.Asked, mark-label-reads.Learnt, assume-stack-delta-reads.Asked, assume-stack-delta-reads.Learnt,)
+gen-ternary-calls t = (kid-at-reads.Asked, kid-at-reads.Learnt, create-label-reads.Asked, create-label-reads.Learnt, gen-expr-below t, gen-expr.Post, branch-reads.Asked, branch-reads.Learnt, jump-reads.Asked, jump-reads.Learnt, mark-label-reads.Asked, mark-label-reads.Learnt, assume-stack-delta-reads.Asked, assume-stack-delta-reads.Learnt)
 
 gen-ternary-kid-at-requires : (t : ℕ) → gen-ternary-lts.Need-kid-at-requires (gen-ternary-calls t) (gen-ternary-at t) gen-ternary.Post
 gen-ternary-kid-at-requires t c κs = ((c .before .before .before .pre .1) .within)
@@ -2086,7 +2086,7 @@ gen-ternary-returns : (t : ℕ) → gen-ternary-lts.Need-returns (gen-ternary-ca
 gen-ternary-returns t c = ternary-arm (c .before .before .before .before .before .before .before .before .before .before .before .before .before .before .before .before .before .before .before .before .before .before .before .before .before .before .before .before .before .before .before .before .before .before .before .before .before .before .before .before .before .before .before .before .before .args .l) (c .before .before .before .before .before .before .before .before .before .before .before .before .before .before .before .before .before .before .before .before .before .before .before .before .before .before .before .before .before .before .before .before .before .before .before .before .before .before .before .before .before .before .before .before .before .args .p) (c .before .before .before .before .before .before .before .before .before .before .before .before .before .before .before .before .before .before .before .before .before .before .before .before .before .before .before .before .before .before .before .before .before .before .before .before .before .before .before .before .before .kid-at .ensures) (c .before .before .before .before .before .before .before .before .before .before .before .before .before .before .before .before .before .before .before .before .before .before .before .before .before .before .before .before .before .before .before .before .before .before .before .before .before .before .before .before .kid-at2 .ensures) (c .before .before .before .before .before .before .before .before .before .before .before .before .before .before .before .before .before .before .before .before .before .before .before .before .before .before .before .before .before .before .before .before .before .before .before .before .before .before .before .create-label .ensures (now (c .before .before .before .before .before .before .before .before .before .before .before .before .before .before .before .before .before .before .before .before .before .before .before .before .before .before .before .before .before .before .before .before .before .before .before .before .before .before .before .before .before .before .before .before .before .args .file)) _ ((c .before .before .before .before .before .before .before .before .before .before .before .before .before .before .before .before .before .before .before .before .before .before .before .before .before .before .before .before .before .before .before .before .before .before .before .before .before .before .before .before .before .before .before .before .before .pre .1) .fine)) (c .before .before .before .before .before .before .before .before .before .before .before .before .before .before .before .before .before .before .before .before .before .before .before .before .before .before .before .before .before .before .before .before .before .before .before .before .before .before .create-label2 .ensures (now (c .before .before .before .before .before .before .before .before .before .before .before .before .before .before .before .before .before .before .before .before .before .before .before .before .before .before .before .before .before .before .before .before .before .before .before .before .before .before .before .before .before .before .before .before .before .args .file)) _ ((c .before .before .before .before .before .before .before .before .before .before .before .before .before .before .before .before .before .before .before .before .before .before .before .before .before .before .before .before .before .before .before .before .before .before .before .before .before .before .before .create-label .ensures (now (c .before .before .before .before .before .before .before .before .before .before .before .before .before .before .before .before .before .before .before .before .before .before .before .before .before .before .before .before .before .before .before .before .before .before .before .before .before .before .before .before .before .before .before .before .before .args .file)) _ ((c .before .before .before .before .before .before .before .before .before .before .before .before .before .before .before .before .before .before .before .before .before .before .before .before .before .before .before .before .before .before .before .before .before .before .before .before .before .before .before .before .before .before .before .before .before .pre .1) .fine)) .fine)) (c .before .before .before .before .before .before .before .before .before .before .before .before .before .before .before .before .before .before .before .before .before .before .before .before .before .before .before .before .before .before .before .before .before .before .before .gen-expr .ensures) (c .before .before .before .before .before .before .before .before .before .before .before .before .before .before .before .before .before .before .before .before .before .before .before .before .before .before .before .before .before .branch .ensures (now (c .before .before .before .before .before .before .before .before .before .before .before .before .before .before .before .before .before .before .before .before .before .before .before .before .before .before .before .before .before .before .before .before .before .before .before .before .before .before .before .before .before .before .before .before .before .args .file))) (c .before .before .before .before .before .before .before .before .before .before .before .before .before .before .before .before .before .before .before .before .before .before .before .before .gen-expr2 .ensures) (c .before .before .before .before .before .before .before .before .before .before .before .before .before .before .before .before .before .before .jump .ensures (now (c .before .before .before .before .before .before .before .before .before .before .before .before .before .before .before .before .before .before .before .before .before .before .before .before .before .before .before .before .before .before .before .before .before .before .before .before .before .before .before .before .before .before .before .before .before .args .file))) (c .before .before .before .before .before .before .before .before .before .before .before .before .before .before .mark-label .ensures (now (c .before .before .before .before .before .before .before .before .before .before .before .before .before .before .before .before .before .before .before .before .before .before .before .before .before .before .before .before .before .before .before .before .before .before .before .before .before .before .before .before .before .before .before .before .before .args .file))) (c .before .before .before .before .before .before .before .before .before .gen-expr3 .ensures) (c .before .before .before .mark-label2 .ensures (now (c .before .before .before .before .before .before .before .before .before .before .before .before .before .before .before .before .before .before .before .before .before .before .before .before .before .before .before .before .before .before .before .before .before .before .before .before .before .before .before .before .before .before .before .before .before .args .file))) (c .assume-stack-delta .ensures (now (c .before .before .before .before .before .before .before .before .before .before .before .before .before .before .before .before .before .before .before .before .before .before .before .before .before .before .before .before .before .before .before .before .before .before .before .before .before .before .before .before .before .before .before .before .before .args .file)) _ ((c .before .before .before .mark-label2 .ensures (now (c .before .before .before .before .before .before .before .before .before .before .before .before .before .before .before .before .before .before .before .before .before .before .before .before .before .before .before .before .before .before .before .before .before .before .before .before .before .before .before .before .before .before .before .before .before .args .file))) .fine))
 
 abbrev gen-unary-op-calls : ℕ → gen-unary-op-lts.Claims
-gen-unary-op-calls t = (node-at-reads.Asked, node-at-reads.Learnt, literal-of-reads.Asked, literal-of-reads.Learnt, negate-integer-reads.Asked, negate-integer-reads.Learnt, negate-float-reads.Asked, negate-float-reads.Learnt, push-reads.Asked, push-reads.Learnt, gen-expr-below t, gen-expr.Post, action-reads.Asked, action-reads.Learnt, adjust-below t, adjust.Post,)
+gen-unary-op-calls t = (node-at-reads.Asked, node-at-reads.Learnt, literal-of-reads.Asked, literal-of-reads.Learnt, negate-integer-reads.Asked, negate-integer-reads.Learnt, negate-float-reads.Asked, negate-float-reads.Learnt, push-reads.Asked, push-reads.Learnt, gen-expr-below t, gen-expr.Post, action-reads.Asked, action-reads.Learnt, adjust-below t, adjust.Post)
 
 gen-unary-op-enum-told : (t : ℕ) → gen-unary-op-lts.Need-enum-told (gen-unary-op-calls t) (gen-unary-op-at t) gen-unary-op.Post
 gen-unary-op-enum-told t c = search needs
@@ -2248,7 +2248,7 @@ gen-unary-op-returns-9 : (t : ℕ) → gen-unary-op-lts.Need-returns-9 (gen-unar
 gen-unary-op-returns-9 t c = rw (c .before .before .before .before .before .before .before .before .o2 .given .1) (c .before .before .before .before .adjust2 .ensures)
 
 abbrev gen-while-loop-calls : ℕ → gen-while-loop-lts.Claims
-gen-while-loop-calls t = (kid-at-reads.Asked, kid-at-reads.Learnt, create-label-reads.Asked, create-label-reads.Learnt, mark-label-reads.Asked, mark-label-reads.Learnt, gen-expr-below t, gen-expr.Post, action-reads.Asked, action-reads.Learnt, branch-reads.Asked, branch-reads.Learnt, loop-to-reads.Asked, loop-to-reads.Learnt, gen-statement-below t, gen-statement.Post, jump-reads.Asked, jump-reads.Learnt,)
+gen-while-loop-calls t = (kid-at-reads.Asked, kid-at-reads.Learnt, create-label-reads.Asked, create-label-reads.Learnt, mark-label-reads.Asked, mark-label-reads.Learnt, gen-expr-below t, gen-expr.Post, action-reads.Asked, action-reads.Learnt, branch-reads.Asked, branch-reads.Learnt, loop-to-reads.Asked, loop-to-reads.Learnt, gen-statement-below t, gen-statement.Post, jump-reads.Asked, jump-reads.Learnt)
 
 gen-while-loop-kid-at-requires : (t : ℕ) → gen-while-loop-lts.Need-kid-at-requires (gen-while-loop-calls t) (gen-while-loop-at t) gen-while-loop.Post
 gen-while-loop-kid-at-requires t c κs = ((c .before .before .before .pre .1) .within)
@@ -2293,7 +2293,7 @@ gen-while-loop-returns : (t : ℕ) → gen-while-loop-lts.Need-returns (gen-whil
 gen-while-loop-returns t c = while-arm (c .before .before .before .before .before .before .before .before .before .before .before .before .before .before .before .before .before .before .before .before .before .before .before .before .before .before .before .before .before .before .before .before .before .before .before .before .before .before .before .before .before .args .l) (c .before .before .before .before .before .before .before .before .before .before .before .before .before .before .before .before .before .before .before .before .before .before .before .before .before .before .before .before .before .before .before .before .before .before .before .before .before .before .before .before .before .args .p) (c .before .before .before .before .before .before .before .before .before .before .before .before .before .before .before .before .before .before .before .before .before .before .before .before .before .before .before .before .before .before .before .before .before .before .before .before .before .kid-at .ensures) (loopOf (c .before .before .before .before .before .before .before .before .before .before .before .before .before .before .before .loop-to .result)) (c .before .before .before .before .before .before .before .before .before .before .before .before .before .before .before .loop-to .ensures) (c .before .before .before .before .before .before .before .before .before .before .before .before .before .before .before .before .before .before .before .before .before .before .before .before .before .before .before .before .before .before .before .before .before .before .before .before .create-label .ensures (now (c .before .before .before .before .before .before .before .before .before .before .before .before .before .before .before .before .before .before .before .before .before .before .before .before .before .before .before .before .before .before .before .before .before .before .before .before .before .before .before .before .before .args .file)) _ ((c .before .before .before .before .before .before .before .before .before .before .before .before .before .before .before .before .before .before .before .before .before .before .before .before .before .before .before .before .before .before .before .before .before .before .before .before .before .before .before .before .before .pre .1) .fine)) (c .before .before .before .before .before .before .before .before .before .before .before .before .before .before .before .before .before .before .before .before .before .before .before .before .before .before .before .before .before .before .before .before .before .before .before .create-label2 .ensures (now (c .before .before .before .before .before .before .before .before .before .before .before .before .before .before .before .before .before .before .before .before .before .before .before .before .before .before .before .before .before .before .before .before .before .before .before .before .before .before .before .before .before .args .file)) _ ((c .before .before .before .before .before .before .before .before .before .before .before .before .before .before .before .before .before .before .before .before .before .before .before .before .before .before .before .before .before .before .before .before .before .before .before .before .create-label .ensures (now (c .before .before .before .before .before .before .before .before .before .before .before .before .before .before .before .before .before .before .before .before .before .before .before .before .before .before .before .before .before .before .before .before .before .before .before .before .before .before .before .before .before .args .file)) _ ((c .before .before .before .before .before .before .before .before .before .before .before .before .before .before .before .before .before .before .before .before .before .before .before .before .before .before .before .before .before .before .before .before .before .before .before .before .before .before .before .before .before .pre .1) .fine)) .fine)) (c .before .before .before .before .before .before .before .before .before .before .before .before .before .before .before .before .before .before .before .before .before .before .before .before .before .before .before .before .before .before .before .before .before .mark-label .ensures (now (c .before .before .before .before .before .before .before .before .before .before .before .before .before .before .before .before .before .before .before .before .before .before .before .before .before .before .before .before .before .before .before .before .before .before .before .before .before .before .before .before .before .args .file))) (c .before .before .before .before .before .before .before .before .before .before .before .before .before .before .before .before .before .before .before .before .before .before .before .before .before .before .before .before .gen-expr .ensures) (c .before .before .before .before .before .before .before .before .before .before .before .before .before .before .before .before .before .before .before .before .before .before .action .ensures (now (c .before .before .before .before .before .before .before .before .before .before .before .before .before .before .before .before .before .before .before .before .before .before .before .before .before .before .before .before .before .before .before .before .before .before .before .before .before .before .before .before .before .args .file))) (c .before .before .before .before .before .before .before .before .before .before .before .before .before .before .before .before .before .before .branch .ensures (now (c .before .before .before .before .before .before .before .before .before .before .before .before .before .before .before .before .before .before .before .before .before .before .before .before .before .before .before .before .before .before .before .before .before .before .before .before .before .before .before .before .before .args .file))) (c .before .before .before .before .before .before .before .before .before .before .before .before .gen-statement .ensures) (c .before .before .before .before .before .before .jump .ensures (now (c .before .before .before .before .before .before .before .before .before .before .before .before .before .before .before .before .before .before .before .before .before .before .before .before .before .before .before .before .before .before .before .before .before .before .before .before .before .before .before .before .before .args .file))) (c .before .before .mark-label2 .ensures (now (c .before .before .before .before .before .before .before .before .before .before .before .before .before .before .before .before .before .before .before .before .before .before .before .before .before .before .before .before .before .before .before .before .before .before .before .before .before .before .before .before .before .args .file)))
 
 abbrev goto-calls : ℕ → goto-lts.Claims
-goto-calls t = (node-at-reads.Asked, node-at-reads.Learnt, literal-of-reads.Asked, literal-of-reads.Learnt, goto-label-reads.Asked, goto-label-reads.Learnt, play-if-reads.Asked, play-if-reads.Learnt, frame-of-reads.Asked, frame-of-reads.Learnt, goto-frame-reads.Asked, goto-frame-reads.Learnt, gen-expr-below t, gen-expr.Post, goto-frame2-reads.Asked, goto-frame2-reads.Learnt,)
+goto-calls t = (node-at-reads.Asked, node-at-reads.Learnt, literal-of-reads.Asked, literal-of-reads.Learnt, goto-label-reads.Asked, goto-label-reads.Learnt, play-if-reads.Asked, play-if-reads.Learnt, frame-of-reads.Asked, frame-of-reads.Learnt, goto-frame-reads.Asked, goto-frame-reads.Learnt, gen-expr-below t, gen-expr.Post, goto-frame2-reads.Asked, goto-frame2-reads.Learnt)
 
 goto-node-at-requires : (t : ℕ) → goto-lts.Need-node-at-requires (goto-calls t) (goto-at t) goto.Post
 goto-node-at-requires t c κs = tt
@@ -2371,7 +2371,7 @@ goto-returns-4 : (t : ℕ) → goto-lts.Need-returns-4 (goto-calls t) (goto-at t
 goto-returns-4 t c = rw (literal-of (is-node (now (c .before .before .before .before .before .before .before .before .before .before .before .before .before .before .before .before .before .before .args .file)) (c .before .before .before .before .before .before .before .before .before .before .before .before .before .before .before .before .before .before .args .l) (c .before .before .before .before .before .before .before .before .before .before .before .before .before .before .before .before .before .before .args .p) ((c .before .before .before .before .before .before .before .before .before .before .before .before .before .before .before .before .before .before .pre .1) .within) (c .before .before .before .before .before .before .before .before .before .before .before .before .before .before .node-at .ensures)), ← literal-is (now (c .before .before .before .before .before .before .before .before .before .before .before .before .before .before .before .before .before .before .args .file)) (c .before .before .before .before .before .before .before .before .before .before .before .before .before .before .node-at .result .root), ← c .before .before .before .before .before .before .before .before .before .before .before .before .before .literal-of .ensures, (c .before .before .before .before .before .before .before .before .before .before .before .enum-told .given .1)) (goto-arm (c .before .before .before .before .before .before .before .before .before .before .before .before .before .before .before .before .before .before .args .l) (c .before .before .before .before .before .before .before .before .before .before .before .before .before .before .before .before .before .before .args .p) (c .before .before .before .before .before .before .before .before .before .before .before .before .before .before .before .before .before .before .args .play) (c .before .before .before .before .before .before .before .before .gen-expr2 .ensures) (c .before .before .goto-frame22 .ensures (now (c .before .before .before .before .before .before .before .before .before .before .before .before .before .before .before .before .before .before .args .file))))
 
 abbrev one-calls : ℕ → one-lts.Claims
-one-calls t = (gen-expr-below t, gen-expr.Post, truncate-stack-reads.Asked, truncate-stack-reads.Learnt, node-at-reads.Asked, node-at-reads.Learnt, name-of-reads.Asked, name-of-reads.Learnt, push-string-reads.Asked, push-string-reads.Learnt, is-hoisted-reads.Asked, is-hoisted-reads.Learnt, gen-statement-below t, gen-statement.Post, element-of-reads.Asked, element-of-reads.Learnt, push-if-reads.Asked, push-if-reads.Learnt, action-reads.Asked, action-reads.Learnt, branch-reads.Asked, branch-reads.Learnt, mark-label-reads.Asked, mark-label-reads.Learnt, mark-default-reads.Asked, mark-default-reads.Learnt,)
+one-calls t = (gen-expr-below t, gen-expr.Post, truncate-stack-reads.Asked, truncate-stack-reads.Learnt, node-at-reads.Asked, node-at-reads.Learnt, name-of-reads.Asked, name-of-reads.Learnt, push-string-reads.Asked, push-string-reads.Learnt, is-hoisted-reads.Asked, is-hoisted-reads.Learnt, gen-statement-below t, gen-statement.Post, element-of-reads.Asked, element-of-reads.Learnt, push-if-reads.Asked, push-if-reads.Learnt, action-reads.Asked, action-reads.Learnt, branch-reads.Asked, branch-reads.Learnt, mark-label-reads.Asked, mark-label-reads.Learnt, mark-default-reads.Asked, mark-default-reads.Learnt)
 
 one-enum-told : (t : ℕ) → one-lts.Need-enum-told (one-calls t) (one-at t) one.Post
 one-enum-told t c = search needs

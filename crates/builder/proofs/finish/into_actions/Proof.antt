@@ -44,7 +44,7 @@ same-length : tie.Need-same-length
 same-length c = c .before .before .put .kept .0 ∙ c .before .before .before .before .before .before .function-positions .ensures [] .long ∙ c .before .before .before .before .before .before .before .before .before .before .label-positions .ensures [] .long ∙ c .before .before .before .before .before .before .before .before .before .before .before .before .before .before .clear-labels .ensures .long ∙ rw length-set (c .before .before .before .before .before .before .before .before .before .before .before .before .before .before .before .before .before .before .before .move-list .ensures .long)
 
 returns : tie.Need-returns
-returns c = λ F n. rw (c .before .before .put .ensures) (finish-done _ _ (c .before .before .before .before .before .before .before .before .before .before .before .before .before .before .before .before .before .before .before .before .before .before .pre .0) (c .before .before .before .before .before .before .before .before .before .before .before .before .before .before .before .before .before .before .before .before .before .before .pre .1) (c .before .before .before .before .before .before .before .before .before .before .before .before .before .before .before .before .before .before .before .move-list .ensures) (c .before .before .before .before .before .before .before .before .before .before .before .before .before .before .clear-labels .ensures) (c .before .before .before .before .before .before .before .before .before .before .label-positions .ensures) (c .before .before .before .before .before .before .function-positions .ensures) F n)
+returns c = λ F v n k. finish-done _ _ (c .before .before .before .before .before .before .before .before .before .before .before .before .before .before .before .before .before .before .before .before .before .before .pre .0) (c .before .before .before .before .before .before .before .before .before .before .before .before .before .before .before .before .before .before .before .before .before .before .pre .1) (c .before .before .before .before .before .before .before .before .before .before .before .before .before .before .before .before .before .before .before .move-list .ensures) (c .before .before .before .before .before .before .before .before .before .before .before .before .before .before .clear-labels .ensures) (c .before .before .before .before .before .before .before .before .before .before .label-positions .ensures) (c .before .before .before .before .before .before .function-positions .ensures) F n (rw (c .before .before .put .ensures) at k)
 
 pub into-actions-spec : {M : Type 1} → statement M
 into-actions-spec =

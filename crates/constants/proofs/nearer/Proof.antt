@@ -1,0 +1,14 @@
+-- `nearer` meets its contract.
+use mathlib.Core.Path.{sym}
+use borrow.Author.Needs.{needs}
+use Rattle.constants.proofs.nearer.Statement.{statement}
+use Rattle.constants.proofs.nearer.Tie as tie
+
+returns : tie.Need-returns
+returns c = rw (c .if1 .taken)
+
+returns-2 : tie.Need-returns-2
+returns-2 c = search needs
+
+pub nearer-spec : {M : Type 1} → statement M
+nearer-spec = tie.close (tie.spec returns returns-2)
