@@ -20,7 +20,7 @@ use Rattle.lowering.specs.Meaning.{Meaning, list}
 use Rattle.lowering.specs.Statement.{Lists, lists, refusal, no-loop, gen-statements, meanings, start, generate-actions, finish, script-to-actions}
 use Rattle.list_slice.specs.Words.{zerosOf}
 use Rattle.list_slice.specs.Compiled.{Holds}
-use Rattle.definition.specs.Compile.{listsOf}
+use Rattle.definition.specs.Compile.{listsOf, loweredWith}
 use Rattle.codegen_state.specs.declared.CodeBuilder.{CodeBuilder}
 use Rattle.codegen_state.specs.View.{state, Waiting, waiting, Held, holds, stopped, held, back, carry, after}
 use Rattle.codegen_state.specs.Does.{Fine, Named, Does}
@@ -35,7 +35,7 @@ use Rattle.builder.specs.Places.{finished}
 use Rattle.builder.proofs.Body.{top-base}
 use Rattle.as2_codegen.specs.declared.Lowered.the-variants as lowered
 use Rattle.as2_codegen.specs.Begin.{Begun, statementsPart, Generating}
-use Rattle.as2_codegen.specs.Lowering.{loweredWith, inSlice, ifAccepted, numberOf, LeftList, Lowers}
+use Rattle.as2_codegen.specs.Lowering.{Lowers}
 
 pub zeros-zeros : (n : ℕ) → zerosOf n ≡ zerosOf (length (zerosOf n))
 unfolding zerosOf
