@@ -7,10 +7,11 @@ use native.Mathlib.Omega.{arith}
 use lib.Dec.{leb}
 use lib.ListN.{length, length-append}
 use borrow.Author.Tests.{le-ltb}
-use Rattle.pcode.specs.Pcode.{Item}
 use Rattle.lowering.specs.Builder.{limits01}
 use Rattle.lowering.specs.Statement as lowering
 use Rattle.list_slice.specs.Words.{zerosOf}
+use Rattle.list_slice.proofs.Areas.{zeros-length}
+use Rattle.zeros.proofs.Clearing.{zeros-zeros}
 use Rattle.action_format.specs.Lists.{Lists}
 use Rattle.action_format.specs.Strings.{zero-free}
 use Rattle.action_format.specs.Code.{code}
@@ -18,14 +19,13 @@ use Rattle.action_format.specs.Bytes.{code-bytes}
 use Rattle.action_format.specs.Offsets.{by-offset, all-near}
 use Rattle.action_format.specs.Encode as action_format
 use Rattle.action_format.specs.Encode.{encode, short, unless-refused}
-use Rattle.definition.specs.Outcome.{Outcome, compiled, refused, byPlace, numberOf, lengthOf, outputOf}
+use Rattle.definition.specs.Outcome.{Outcome, refused, byPlace, numberOf, lengthOf, outputOf}
 use Rattle.definition.specs.Compile.{listsOf, loweredWith, written, ifLowered, compileWith}
 use Rattle.definition.specs.Left.{Compiles, LeftList, outcomeLists}
 use Rattle.definition.proofs.Ways.{lowered-by}
 use Rattle.as2_codegen.specs.declared.Lowered as code
 use Rattle.as2_codegen.specs.declared.Lowered.the-variants as answer
 use Rattle.as2_codegen.specs.Lowering.{answerOf, Lowers}
-use Rattle.as2_codegen.proofs.Meets.{zeros-length, zeros-zeros}
 use Rattle.resolver.specs.Lowered.{Lowered}
 use Rattle.action_writer.specs.declared.Written.{Written}
 use Rattle.action_writer.specs.declared.Written.the-variants as writer

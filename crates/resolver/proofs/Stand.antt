@@ -1,8 +1,7 @@
 -- Each list of an accepted file stands between its ends, and its entries can be walked.
-use Prim.Native.Nat.{ℕ, zero, suc, _+_, _-_, _*_, _≤_, _<_}
+use Prim.Native.Nat.{ℕ, zero, suc, _+_, _-_, _≤_, _<_}
 use mathlib.Core.Path.{_≡_, refl, sym, ap, _∙_, subst}
-use mathlib.Core.List.{List, [], _∷_, _++_, map, reverse, reverseAux, List·Memᴰ, List·Memᴰ·head, Memᴰ·append-right}
-use mathlib.Core.Bool.{Bool, true, false, cond, _&&_}
+use mathlib.Core.List.{List, [], _∷_, _++_, map, reverseAux, List·Memᴰ·head, Memᴰ·append-right}
 use native.Mathlib.Omega.{arith}
 use lib.Dec.{T, lit≤}
 use lib.ListN.{length, getD, List·getD-map, length-map}
@@ -21,10 +20,10 @@ use Rattle.action_format.proofs.Tests.{All, and-first, and-second, all-true, al
 use Rattle.action_format.proofs.Finished.{Named}
 use Rattle.action_format.proofs.Complete.{operands}
 use Rattle.action_format.proofs.Landing.{are-named}
-use Rattle.list_slice.specs.Entry.{Entry, Piece, entryOf, entriesOf, pieceOf}
+use Rattle.list_slice.specs.Entry.{Piece, entryOf, entriesOf, pieceOf}
 use Rattle.list_slice.specs.Words.{joined, entryAt, run}
 use Rattle.list_slice.specs.Items.{References, added}
-use Rattle.list_slice.specs.Compiled.{piece-named, Holds}
+use Rattle.list_slice.specs.Compiled.{piece-named}
 use Rattle.list_slice.specs.Compiled as compiled
 use Rattle.list_slice.proofs.Laid.{run-length}
 use Rattle.list_slice.proofs.Pieces.{piece-back}
