@@ -1,12 +1,10 @@
 -- The loops around the steps, and the answer.
-use Prim.Native.Nat.{ℕ, _+_, _≤_, _<_}
-use mathlib.Core.Path.{_≡_, refl, sym, ap, _∙_}
+use Prim.Native.Nat.{ℕ, _≤_, _<_}
+use mathlib.Core.Path.{_≡_}
 use mathlib.Core.Logic.{⊎-elim}
 use mathlib.Core.List.{List, [], _∷_}
 use native.Mathlib.Omega.{arith}
-use native.Mathlib.Numerals.{add-one}
-use lib.ListN.{length, set, take, length-set}
-use lib.Seq.{take-suc-set, take-all}
+use lib.ListN.{length}
 use borrow.Author.Tests.{lt-ltb, le-ltb}
 use types.Run.{OneOf}
 use Rattle.lowering.specs.Builder.{limits01}
@@ -16,37 +14,9 @@ use Rattle.definition.specs.Left.{Reads}
 use Rattle.action_reader.specs.declared.walk.Walk.{Walk}
 use Rattle.action_reader.specs.View.{Stands}
 use Rattle.action_reader.specs.Walked.{Walked, going, done, refused, Over, found, nowhere}
-use Rattle.action_reader.proofs.Slice.{zeros-join}
 
 pub not-two : OneOf (0 ∷ 1 ∷ 3 ∷ 4 ∷ 5 ∷ []) 2 → ⊥
 not-two h = ⊎-elim (λ e. omega arith) (⊎-elim (λ e. omega arith) (⊎-elim (λ e. omega arith) (⊎-elim (λ e. omega arith) (λ e. omega arith)))) h
-
--- clearing
-
-pub record Cleared (w₀ w : List ℕ) (i : ℕ) : Type 0 where
-  pub long : length w ≡ length w₀
-  pub part : i ≤ length w₀
-  pub zeros : take i w ≡ zerosOf i
-
-pub clear-holds : {w : List ℕ} → Cleared w w 0
-unfolding zerosOf
-clear-holds = record { long = refl; part = omega arith; zeros = refl }
-
-one-zero : zerosOf 1 ≡ 0 ∷ []
-unfolding zerosOf
-one-zero = refl
-
-pub clear-again : {w₀ w : List ℕ} {i : ℕ} → Cleared w₀ w i → i < length w → Cleared w₀ (set w i 0) (i + 1)
-clear-again {w₀} {w} {i} h l = record {
-  long = length-set w i 0 ∙ h .long;
-  part = omega (arith, h .long);
-  zeros = rw (add-one i) (take-suc-set w i 0 l ∙ rw (h .zeros, ← one-zero) (zeros-join i 1 ∙ ap zerosOf (add-one i)));
-}
-
-pub clear-done : {w₀ w : List ℕ} {i : ℕ} → Cleared w₀ w i → length w ≤ i → w ≡ zerosOf (length w₀)
-clear-done {w₀} {w} {i} h l =
-    let e : i ≡ length w₀ = omega (arith, h .part, h .long) in
-    sym (take-all i w l) ∙ h .zeros ∙ ap zerosOf e
 
 -- the walk
 

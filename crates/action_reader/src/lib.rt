@@ -3,8 +3,8 @@ ghost use lib.ListN.{length};
 ghost use Rattle.lowering.specs.Builder.{limits01};
 ghost use Rattle.definition.specs.Left.{Reads};
 ghost use Rattle.action_reader.specs.Answers.{numberOf, lengthOf};
-use crate::reader::clear;
 use crate::reader::walk_all;
+use zeros::clear_words;
 
 mod begin;
 mod lists;
@@ -24,7 +24,7 @@ pub enum Answer {
 pub fn read(bytes: &[u8], list: &mut [u32]) -> Answer
     ensures { λ r. ⌜ Reads limits01 (now (bytes .entry)) (length (now (list .entry))) (numberOf r) (lengthOf r) (now (list .exit)) ⌝ }
 {
-    clear(list);
+    clear_words(list);
     if list.len() < 16384 {
         return Answer::Refused(13);
     }
@@ -32,6 +32,6 @@ pub fn read(bytes: &[u8], list: &mut [u32]) -> Answer
     if s.phase == 1 {
         return Answer::Read(bytes.len());
     }
-    clear(list);
+    clear_words(list);
     Answer::Refused(14)
 }

@@ -32,13 +32,3 @@ pub fn walk_all(bytes: &[u8], list: &mut [u32]) -> Walk
     let mut outer = [0usize; 3072];
     walk(bytes, list, &mut table, &mut outer)
 }
-
-pub fn clear(list: &mut [u32])
-    ensures { λ r. ⌜ now (list .exit) ≡ zerosOf (length (now (list .entry))) ⌝ }
-{
-    let mut i: usize = 0;
-    while i < list.len() {
-        list[i] = 0;
-        i += 1;
-    }
-}

@@ -1,15 +1,12 @@
 -- The answer is that of the definition.
 use Prim.Native.Nat.{ℕ, _+_, _-_, _≤_}
-use mathlib.Core.Path.{_≡_, refl, ap, sym, _∙_, subst}
+use mathlib.Core.Path.{_≡_, refl, ap, sym, _∙_}
 use mathlib.Core.List.{List, [], _∷_}
 use mathlib.Core.Bool.{Bool, true, false, cond}
 use native.Mathlib.Omega.{arith}
 use lib.Dec.{T, leb}
 use lib.ListN.{length}
 use borrow.Author.Tests.{eq-eqb}
-use Rattle.pcode.specs.Pcode.{Item}
-use Rattle.script_records.specs.declared.layout.Layout.{Layout}
-use Rattle.script_records.specs.Layout.{layoutOf}
 use Rattle.script.specs.Write.{Bytes}
 use Rattle.lowering.specs.Builder.{limits01}
 use Rattle.lowering.specs.Statement as lowering
@@ -21,22 +18,18 @@ use Rattle.action_format.specs.Encode as encoded
 use Rattle.action_format.specs.Encode.{short, unless-refused, encode}
 use Rattle.action_format.specs.ByList.{body-bytes}
 use Rattle.list_slice.specs.Words.{zerosOf}
-use Rattle.list_slice.specs.Compiled.{Holds, listsIn}
-use Rattle.list_slice.proofs.Determined.{read-back}
-use Rattle.definition.specs.Outcome.{compiled, refused, byPlace, byteLimits}
+use Rattle.definition.specs.Outcome.{compiled, refused, byPlace}
 use Rattle.definition.specs.Compile.{listsOf, written, ifLowered}
-use Rattle.definition.proofs.Kept.{kept-lists}
 use Rattle.resolver.specs.declared.Answer.{Answer}
 use Rattle.resolver.specs.Lowered.{Lowered}
 use Rattle.resolver.specs.Walk.{countOf}
-use Rattle.resolver.specs.Resolved.{Tables, Resolved, Resolves}
+use Rattle.resolver.specs.Resolved.{Resolved, Resolves}
 use Rattle.resolver.specs.Resolved as resolver
 use Rattle.resolver.proofs.Stand.{stands}
 use Rattle.action_writer.specs.declared.Written.the-variants as answer
-use Rattle.action_writer.specs.Bodies.{heldLists, bodyAt}
-use Rattle.action_writer.specs.Steps.{Writable}
+use Rattle.action_writer.specs.Bodies.{bodyAt}
 use Rattle.action_writer.specs.Outcomes.{Leaves, topBytes, topOutcome, Measured}
-use Rattle.action_writer.proofs.Ready.{writable}
+use Rattle.action_writer.proofs.Ready.{same-lists, held}
 
 -- no refusal has the number 0
 none-zero : (a b c d : Bool) (bs : List ℕ) → unless-refused ((a, 9) ∷ (b, 10) ∷ (c, 11) ∷ (d, 12) ∷ []) (encoded.bytes bs) ≡ encoded.refused 0 → ⊥
@@ -55,14 +48,6 @@ is-true : (b : Bool) → T b → b ≡ true
 is-true true h = refl
 is-true false h = absurd h
 
-module _ {F w : List ℕ} (h : Lowered F w) where
-  same-lists : listsIn limits01 F w ≡ h .lists
-  same-lists = read-back (h .holds)
-
-  held : heldLists F w ≡ byPlace (h .lists)
-  unfolding heldLists
-  held = ap byPlace same-lists
-
 module _ {F w : List ℕ} (h : Lowered F w) {sizes offsets : List ℕ} where
   pub refused-leaves : {r : Answer} → Resolves F w (h .lists) sizes offsets r → (r .refusal ≡ 0 → ⊥) → (o : List ℕ) → o ≡ zerosOf (length o) →
       Leaves (ifLowered (listsOf limits01 F) (length o)) (length o) (answer.Refused (r .refusal)) o
@@ -75,12 +60,6 @@ module _ {F w : List ℕ} (h : Lowered F w) {sizes offsets : List ℕ} where
   resolved-is (resolver.good x y) q = x
 
   module _ (bytes : Bytes F) (x : Resolved F w (h .lists) sizes offsets) where
-    pub is-writable : (l : Layout) → l ≡ layoutOf F → Writable F l w sizes offsets
-    is-writable l layout =
-        writable F w l sizes offsets layout (h .accepted) (subst (λ (y : List (List Item)). Holds limits01 F y w) (sym (same-lists h)) (h .holds)) {lim = byteLimits limits01}
-        (rw (held h) (kept-lists limits01 (omega arith) F bytes (h .accepted) (h .lists) (h .from)))
-        (subst (λ (y : List (List Item)). Tables F w y sizes offsets) (sym (same-lists h)) (x .tables)) (rw (held h) (x .is-short))
-
     some-lists : 1 ≤ countOf w
     some-lists = stands h bytes .some
 

@@ -1,7 +1,4 @@
 pub mod Building
-pub mod Whole
-pub mod BodyWalked
-pub mod KnownEntries
 pub mod Fits
 pub mod PieceBytes
 pub mod HeaderBytes

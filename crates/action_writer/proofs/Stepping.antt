@@ -5,14 +5,13 @@ use mathlib.Core.List.{List, [], _∷_, _++_, append-nil}
 use mathlib.Core.Bool.{Bool, true, false, cond}
 use native.Mathlib.Omega.{arith}
 use native.Mathlib.Numerals.{add-one}
-use lib.Dec.{T, ltb, eqb, ltb→lt}
+use lib.Dec.{T, eqb, ltb→lt}
 use lib.ListN.{length, getD}
 use borrow.Author.Tests.{ne-eqb, lt-ltb, eqb-true, eqb-false}
 use Rattle.pcode.specs.declared.Op.{Op}
 use Rattle.pcode.specs.Pcode.{Value, Action, Item, Plain, Branching, Jump, If, rowOf, plain, push, branch, define, action, mark}
 use Rattle.script_records.specs.declared.layout.Layout.{Layout}
 use Rattle.script_records.specs.Layout.{layoutOf}
-use Rattle.script.specs.Rules.{checkOf}
 use Rattle.lowering.specs.Builder.{limits01}
 use Rattle.action_format.specs.ByPlace.{actions, rebranch, place-of}
 use Rattle.action_format.specs.Lists.{Lists, pushing, branching}
@@ -32,12 +31,13 @@ use Rattle.byte_writer.specs.Data.{frame, framed, valueData, actionData, action
 use Rattle.byte_writer.specs.Header.{IsFunction}
 use Rattle.byte_writer.proofs.ParamLoops.{join-append}
 use Rattle.resolver.specs.Walk.{countOf, endOf, startOf, indexOf, pieceAt, referencesIn, walked, walked-bytes}
+use Rattle.resolver.specs.Lowered.{Lowered}
+use Rattle.resolver.specs.Texts.{Operand}
 use Rattle.resolver.specs.Resolved.{Tables}
+use Rattle.resolver.proofs.Whole.{few-lists, long-slice}
 use Rattle.resolver.proofs.OpCodes.{op-code, op-says}
 use Rattle.action_writer.specs.Bodies.{heldLists, numberIn, bodyAt, itemsFrom, bytesOf}
 use Rattle.action_writer.specs.Steps.{an-action, a-first-value, a-later-value, sortOf, OpenIn, Continues, Step}
-use Rattle.action_writer.proofs.Whole.{few-lists}
-use Rattle.action_writer.proofs.KnownEntries.{Pooled}
 use Rattle.action_writer.proofs.Fits.{Ok}
 use Rattle.action_writer.proofs.PieceBytes.{value-is, op-is, pool-is, store-is, frame-is, frame2-is, label-is, branch-is}
 use Rattle.action_writer.proofs.HeaderBytes.{function-data, function-bytes}
@@ -55,7 +55,7 @@ index-number n j h = by (eqb (j + 1) n) refl
     by true e = omega (arith, eqb-true (j + 1) n e)
     by false e = rw (add-one j)
 
-module _ (F w : List ℕ) (l : Layout) (sizes offsets : List ℕ) (layout : l ≡ layoutOf F) (accepted : checkOf F ≡ 0) (long : 16384 ≤ length w)
+module _ (F w : List ℕ) (l : Layout) (sizes offsets : List ℕ) (layout : l ≡ layoutOf F) (lowered : Lowered F w)
     (tables : Tables F w (listsIn limits01 F w) sizes offsets) where
   abbrev L : Lists
   L = heldLists F w
@@ -139,8 +139,8 @@ module _ (F w : List ℕ) (l : Layout) (sizes offsets : List ℕ) (layout : l �
     made-function : (n g : ℕ) → entryOf (function n g) ≡ entryAt w e → T (piece-named F (function n g)) → Ok L pool j (action (define (headerIn F g) n)) →
         itemsFrom F w j e ≡ action (define (headerIn F g) n) ∷ G → At
     made-function n g q t ok items =
-        let i : IsFunction F l g = is-function F l layout accepted g t in
-        let few = few-lists F w in
+        let i : IsFunction F l g = is-function F l layout (lowered .accepted) g t in
+        let few = few-lists lowered in
         let s = size-of n (ok .2) in
         sort-is q refl (record {
           function = rw (second-is q) i;
@@ -264,11 +264,11 @@ module _ (F w : List ℕ) (l : Layout) (sizes offsets : List ℕ) (layout : l �
       unfolding word
       two n = omega arith
 
-      pub step-of : (p : Piece) → pieceAt w e ≡ p → entryOf p ≡ entryAt w e → T (piece-named F p) → Pooled p → All (Ok L pool j) (added r p G) → itemsFrom F w j e ≡ added r p G → At
+      pub step-of : (p : Piece) → pieceAt w e ≡ p → entryOf p ≡ entryAt w e → T (piece-named F p) → Operand p → All (Ok L pool j) (added r p G) → itemsFrom F w j e ≡ added r p G → At
       step-of (op o) p q t c ok items =
           made-action q (plain (Plain.op o)) [] (op-sort o) (λ y. absurd (op-says (rowOf o .code) (op-code o) .not-pool y)) items (op-is F l w layout off o) (omega arith) (λ at b. tt)
       step-of (ConstantPool n) p q t c ok items =
-          made-action q (plain (Plain.ConstantPool (r .strings n))) _ refl (λ y. omega arith) items (pool-is F l w layout off n c long) (ok .0 .1) (λ at b. tt)
+          made-action q (plain (Plain.ConstantPool (r .strings n))) _ refl (λ y. omega arith) items (pool-is F l w layout off n c (long-slice lowered)) (ok .0 .1) (λ at b. tt)
       step-of (StoreRegister n) p q t c ok items =
           made-action q (plain (Plain.StoreRegister n)) (n ∷ []) refl (λ y. absurd (omega arith)) items (store-is F l w layout off n (ltb→lt n 256 (ok .0 .0))) (omega arith) (λ at b. tt)
       step-of (GotoFrame n) p q t c ok items =

@@ -1,58 +1,20 @@
 -- The top list's bytes in an output of zeros.
 use Prim.Native.Nat.{ℕ, zero, suc, _+_, _-_, _≤_, _<_}
-use mathlib.Core.Path.{_≡_, refl, ap, sym, _∙_, subst}
-use mathlib.Core.List.{List, [], _∷_, append-nil}
+use mathlib.Core.Path.{_≡_, refl, ap, _∙_, subst}
+use mathlib.Core.List.{List, [], _∷_}
 use native.Mathlib.Omega.{arith}
-use lib.ListN.{length, getD, set, drop, replicate, length-append}
-use lib.Seq.{drop-length}
+use lib.ListN.{length, getD, drop, replicate, length-append}
 use borrow.Author.Tests.{lt-leb, le-leb}
 use Rattle.list_slice.specs.Words.{zerosOf}
+use Rattle.zeros.proofs.Clearing.{cleared-long}
 use Rattle.byte_writer.specs.Written.{Room, Wrote}
 use Rattle.byte_writer.proofs.Writes.{wrote-then, written-is}
-use Rattle.byte_writer.proofs.Loops.{Left, left-start, left-next, left-done}
 use Rattle.definition.specs.Outcome.{Outcome}
 use Rattle.resolver.specs.Walk.{countOf}
 use Rattle.action_writer.specs.declared.Written.{Written}
 use Rattle.action_writer.specs.declared.Written.the-variants as written
 use Rattle.action_writer.specs.Bodies.{bodyAt}
 use Rattle.action_writer.specs.Outcomes.{Leaves, topBytes, topOutcome, Measured}
-
--- the loop that clears
-
-zeros-long : (n : ℕ) → length (zerosOf n) ≡ n
-unfolding zerosOf
-zeros-long zero = refl
-zeros-long (suc n) = ap suc (zeros-long n)
-
-zeros-next : (n i : ℕ) → i < n → zerosOf (n - i) ≡ 0 ∷ zerosOf (n - (i + 1))
-unfolding zerosOf
-zeros-next n i h = let e : n - i ≡ suc (n - (i + 1)) = omega arith in rw e
-
-zeros-none : (n i : ℕ) → n ≤ i → zerosOf (n - i) ≡ []
-unfolding zerosOf
-zeros-none n i h = let e : n - i ≡ 0 = omega arith in rw e
-
-pub clear-start : (o : List ℕ) → Left o 0 (zerosOf (length o)) o 0 (zerosOf (length o - 0))
-clear-start o = let e : length o - 0 ≡ length o = omega arith in rw e (left-start o 0 (zerosOf (length o)))
-
-module _ {o o′ : List ℕ} (n i : ℕ) (inv : Left o 0 (zerosOf n) o′ i (zerosOf (n - i))) where
-  pub clear-next : i < n → Left o 0 (zerosOf n) (set o′ i 0) (i + 1) (zerosOf (n - (i + 1)))
-  clear-next h = left-next (rw (zeros-next n i h) at inv)
-
-  pub clear-done : n ≤ i → n ≡ length o → o′ ≡ zerosOf n
-  clear-done h e =
-      let z = zeros-long n in
-      let d : Wrote o 0 (zerosOf n) i o′ = left-done (rw (zeros-none n i h) at inv) in
-      let k : 0 + length (zerosOf n) ≡ length o = omega arith in
-      d .output ∙ (written-is o 0 (zerosOf n) (omega arith) ∙ rw (k, drop-length o) (append-nil (zerosOf n)))
-
--- a cleared output
-
-pub cleared-long : (o : List ℕ) {x : List ℕ} → x ≡ zerosOf (length o) → length x ≡ length o
-cleared-long o e = ap length e ∙ zeros-long (length o)
-
-pub cleared : (o : List ℕ) {x : List ℕ} → x ≡ zerosOf (length o) → x ≡ zerosOf (length x)
-cleared o e = e ∙ ap zerosOf (sym (cleared-long o e))
 
 pub cleared-leaves : (f : ℕ → Outcome) (o : List ℕ) {x : List ℕ} → x ≡ zerosOf (length o) → {r : Written} {out : List ℕ} → Leaves (f (length x)) (length x) r out →
     Leaves (f (length o)) (length o) r out

@@ -1,8 +1,6 @@
 -- The bodies of the lists that the words hold, by the order in which the lists finish.
-use Prim.Native.Nat.{ℕ, _+_, _-_}
+use Prim.Native.Nat.{ℕ, _-_}
 use mathlib.Core.List.{List}
-use mathlib.Core.Bool.{cond}
-use lib.Dec.{eqb}
 use Rattle.pcode.specs.Pcode.{Item}
 use Rattle.lowering.specs.Builder.{limits01}
 use Rattle.action_format.specs.ByPlace.{place-of}
@@ -13,14 +11,12 @@ use Rattle.list_slice.specs.Compiled.{listsIn}
 use Rattle.definition.specs.Outcome.{byPlace}
 use Rattle.definition.specs.Demand3.{listAt}
 use Rattle.resolver.specs.Walk.{countOf, endOf, walked, walked-bytes}
+use Rattle.resolver.specs.Passes.{numberAt}
 
 unfoldable pub heldLists : List ℕ → List ℕ → Lists
 heldLists F w = byPlace (listsIn limits01 F w)
 
--- the number of the list at place j of n: the last is list 0
-abbrev pub numberAt : (n j : ℕ) → ℕ
-numberAt n j = cond (eqb (j + 1) n) 0 (j + 1)
-
+-- the number of the list at place j
 abbrev pub numberIn : List ℕ → ℕ → ℕ
 numberIn w j = numberAt (countOf w) j
 

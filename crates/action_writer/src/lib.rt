@@ -16,22 +16,12 @@ use resolver::count_lists;
 use resolver::resolve;
 use script_records::layout::Layout;
 use script_records::layout::layout_of;
+use zeros::clear_bytes;
 
 // How many bytes were written, or the refusal's number.
 pub enum Written {
     Bytes(usize),
     Refused(u32),
-}
-
-// Only zeros.
-pub fn clear(output: &mut [u8])
-    ensures { λ r. ⌜ now (output .exit) ≡ zerosOf (length (now (output .entry))) ⌝ }
-{
-    let mut i: usize = 0;
-    while i < output.len() {
-        output[i] = 0;
-        i += 1;
-    }
 }
 
 fn wide(x: u32) -> usize
@@ -104,7 +94,7 @@ pub fn write(file: &[u8], list: &[u32], output: &mut [u8]) -> Written
     requires { ⌜ Lowered (now file) (now list) ⌝ }
     ensures { λ r. ⌜ Leaves (ifLowered (listsOf limits01 (now (file .entry))) (length (now (output .entry)))) (length (now (output .entry))) r (now (output .exit)) ⌝ }
 {
-    clear(output);
+    clear_bytes(output);
     let l = layout_of(file);
     write_with_tables(file, l, list, output)
 }

@@ -1,10 +1,9 @@
 -- The words that lowering begins with.
 use Prim.Native.Nat.{ℕ, zero, suc, _+_, _*_, _≤_, _<_}
-use mathlib.Core.Path.{_≡_, refl, ap, sym, _∙_}
-use mathlib.Core.List.{List, [], _∷_, _++_}
+use mathlib.Core.Path.{_≡_, refl, ap, _∙_}
+use mathlib.Core.List.{List}
 use native.Mathlib.Omega.{arith}
-use lib.ListN.{length, getD, take, drop, replicate}
-use lib.Seq.{drop-length}
+use lib.ListN.{length, getD, replicate}
 use Rattle.lowering.specs.Builder.{limits01}
 use Rattle.lowering.specs.Statement.{start}
 use Rattle.list_slice.specs.Entry.{entry, entryOf, pieceOf}
@@ -12,7 +11,7 @@ use Rattle.list_slice.specs.Words.{zerosOf, entryAt, run, cut}
 use Rattle.list_slice.specs.Items.{gathered}
 use Rattle.codegen_state.specs.declared.CodeBuilder.{CodeBuilder}
 use Rattle.codegen_state.specs.View.{state, gather}
-use Rattle.codegen_state.specs.Does.{Fine, Named, marked, Written}
+use Rattle.codegen_state.specs.Does.{Fine, marked, Written}
 use Rattle.builder.specs.Entries.{put3}
 use Rattle.builder.proofs.Words.{length-put, entry-same, entry-other, getD-put}
 use Rattle.as2_codegen.specs.Begin.{Begun}
@@ -25,17 +24,6 @@ zero-at (suc n) (suc i) = zero-at n i
 zeros-at : (n i : ℕ) → getD (zerosOf n) i 0 ≡ 0
 unfolding zerosOf
 zeros-at n i = zero-at n i
-
-append-none : (xs : List ℕ) → xs ++ [] ≡ xs
-append-none [] = refl
-append-none (x ∷ xs) = ap (λ (r : List ℕ). x ∷ r) (append-none xs)
-
--- all words up to the length are cleared
-pub all-zeros : (w w′ : List ℕ) (i : ℕ) → i ≤ length w → w′ ≡ replicate i 0 ++ drop i w → length w′ ≡ length w → length w′ ≤ i → w′ ≡ zerosOf (length w)
-unfolding zerosOf
-all-zeros w w′ i h e l k =
-    let n : i ≡ length w = omega arith in
-    e ∙ ap (λ (j : ℕ). replicate j 0 ++ drop j w) n ∙ rw (drop-length w) (append-none (replicate (length w) 0))
 
 abbrev pub begun : CodeBuilder
 begun = record {

@@ -1,32 +1,30 @@
 -- What the code leaves after all statements, and what the definition gives.
 use Prim.Native.Nat.{ℕ, zero, suc, _≤_, _<_}
-use mathlib.Core.Path.{_≡_, refl, ap, sym, _∙_, subst}
-use mathlib.Core.List.{List, [], _∷_}
-use mathlib.Core.Bool.{Bool, true, false}
+use mathlib.Core.Path.{_≡_, refl, ap, sym, _∙_}
+use mathlib.Core.List.{List}
+use mathlib.Core.Bool.{Bool}
 use native.Mathlib.Omega.{arith}
-use lib.Dec.{eqb, ltb}
-use lib.ListN.{length, replicate, length-replicate}
-use borrow.Author.Tests.{eqb-true, eqb-false, lt-ltb, le-ltb}
-use Rattle.hir.specs.Hir.{Rec}
+use lib.Dec.{eqb}
+use lib.ListN.{length}
+use borrow.Author.Tests.{lt-ltb, le-ltb}
 use Rattle.hir.specs.Tree.{Forest}
-use Rattle.pcode.specs.Pcode.{Item}
 use Rattle.script.specs.Rules.{checkOf}
-use Rattle.script.specs.Resolve.{scriptOf}
 use Rattle.script_records.specs.Layout.{layoutOf}
 use Rattle.script_records.specs.declared.layout.Layout.{Layout}
 use Rattle.script_records.specs.declared.part.Part.{Part}
-use Rattle.lowering.specs.Builder.{limits01, State, Result, ok, refused}
-use Rattle.lowering.specs.Meaning.{Meaning, list}
-use Rattle.lowering.specs.Statement.{Lists, lists, refusal, no-loop, gen-statements, meanings, start, generate-actions, finish, script-to-actions}
+use Rattle.lowering.specs.Builder.{limits01, Result, ok, refused}
+use Rattle.lowering.specs.Meaning.{Meaning}
+use Rattle.lowering.specs.Statement.{Lists, lists, refusal, no-loop, gen-statements, start, generate-actions, finish, script-to-actions}
 use Rattle.list_slice.specs.Words.{zerosOf}
 use Rattle.list_slice.specs.Compiled.{Holds}
-use Rattle.definition.specs.Compile.{listsOf}
+use Rattle.list_slice.proofs.Areas.{zeros-length}
+use Rattle.zeros.proofs.Clearing.{zeros-zeros}
+use Rattle.definition.specs.Compile.{listsOf, loweredWith}
 use Rattle.codegen_state.specs.declared.CodeBuilder.{CodeBuilder}
-use Rattle.codegen_state.specs.View.{state, Waiting, waiting, Held, holds, stopped, held, back, carry, after}
-use Rattle.codegen_state.specs.Does.{Fine, Named, Does}
+use Rattle.codegen_state.specs.View.{state, Waiting, waiting, holds, stopped, held, back, carry, after}
+use Rattle.codegen_state.specs.Does.{Does}
 use Rattle.codegen_state.proofs.Steps.{held-stopped, held-holds}
-use Rattle.tree.specs.Trees.{trees}
-use Rattle.tree.specs.Within.{Within, meaningsAt}
+use Rattle.tree.specs.Within.{meaningsAt}
 use Rattle.tree.proofs.Accepted.{statementsIn, accepted-within, accepted-trees}
 use Rattle.statement.specs.Walk.{Walk}
 use Rattle.rows.specs.declared.Loop.{Loop}
@@ -35,15 +33,7 @@ use Rattle.builder.specs.Places.{finished}
 use Rattle.builder.proofs.Body.{top-base}
 use Rattle.as2_codegen.specs.declared.Lowered.the-variants as lowered
 use Rattle.as2_codegen.specs.Begin.{Begun, statementsPart, Generating}
-use Rattle.as2_codegen.specs.Lowering.{loweredWith, inSlice, ifAccepted, numberOf, LeftList, Lowers}
-
-pub zeros-zeros : (n : ℕ) → zerosOf n ≡ zerosOf (length (zerosOf n))
-unfolding zerosOf
-zeros-zeros n = rw (length-replicate {A = ℕ} n 0)
-
-pub zeros-length : (n : ℕ) → length (zerosOf n) ≡ n
-unfolding zerosOf
-zeros-length n = length-replicate {A = ℕ} n 0
+use Rattle.as2_codegen.specs.Lowering.{Lowers}
 
 -- the statements' part has room in a scratch slice of as many words
 pub walk : {F : List ℕ} {l : Layout} {p : Part} {b : CodeBuilder} {w : List ℕ} {room : ℕ} → Generating F l p b w → p .n ≤ room → Walk F l p b w room

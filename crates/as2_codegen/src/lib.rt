@@ -20,22 +20,12 @@ use script_records::layout::Layout;
 use script_records::layout::layout_of;
 use script_records::part::Part;
 use statement::gen_statements;
+use zeros::clear_words;
 
 // The lists stand in the list slice, or the refusal.
 pub enum Lowered {
     Lists,
     Refused(u32),
-}
-
-// Only zeros.
-pub fn clear(list: &mut [u32])
-    ensures { λ r. ⌜ now (list .exit) ≡ zerosOf (length (now (list .entry))) ⌝ }
-{
-    let mut i: usize = 0;
-    while i < list.len() {
-        list[i] = 0;
-        i += 1;
-    }
 }
 
 // Document 01's number, 0 for an accepted file.
@@ -164,7 +154,7 @@ fn lower(file: &[u8], list: &mut [u32]) -> Lowered
     let b = begin(list);
     let done = generate_actions(file, l, p, b, list);
     if done.refused != 0 {
-        clear(list);
+        clear_words(list);
         return Lowered::Refused(done.refused);
     }
     into_actions(list, done);
@@ -175,7 +165,7 @@ fn lower(file: &[u8], list: &mut [u32]) -> Lowered
 pub fn script_to_actions(file: &[u8], list: &mut [u32]) -> Lowered
     ensures { λ r. ⌜ Lowers limits01 (now (file .entry)) (length (now (list .entry))) r (now (list .exit)) ⌝ }
 {
-    clear(list);
+    clear_words(list);
     if list.len() < 16384 {
         return Lowered::Refused(13);
     }

@@ -14,7 +14,7 @@ use Rattle.list_slice.proofs.Determined.{read-back}
 use Rattle.definition.specs.Outcome.{Outcome, compiled, refused, Reading, read, numberOf, lengthOf, outputOf, readNumberOf, readLengthOf}
 use Rattle.definition.specs.Compile.{compileWith}
 use Rattle.definition.specs.Read.{readWith}
-use Rattle.definition.specs.Left.{LeftList, Compiles, listRead, Reads}
+use Rattle.definition.specs.Left.{Compiles, listRead, Reads}
 
 module _ (lim : Limits) (file : List ℕ) (listWords room number length′ : ℕ) (output list : List ℕ)
     (left : Compiles lim file listWords room number length′ output list) where

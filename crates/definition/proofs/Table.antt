@@ -29,7 +29,7 @@ use Rattle.action_format.specs.Offsets.{position}
 use Rattle.action_format.specs.Encode.{encode}
 use Rattle.action_format.proofs.Tests.{and-first, and-second}
 use Rattle.definition.specs.Outcome.{Outcome, compiled, refused}
-use Rattle.definition.specs.Compile.{ifLowered, compileWith, compileOf}
+use Rattle.definition.specs.Compile.{loweredWith, ifLowered, compileWith, compileOf}
 
 pub record Row : Type 0 where
   pub script : Forest Rec
@@ -180,7 +180,7 @@ calls =
     call [] 16383 0 (refused 13) ∷ []
 
 pub files : map (λ (c : Call). compileOf (c .file) (c .listWords) (c .room)) calls ≡ map (λ (c : Call). c .outcome) calls
-unfolding compileWith checkOf rulesHold layoutOf wordAt endAt stringAt stringsFrom stringsOf rowAt rowsFrom rowsOf spanAt forestIn forest allBelow partedIn parted recordHolds rootHolds allUtf8 allSupported treeIn depth scriptOf mapForest resolved recordOf plainOf statementKinds signed binaryOperators constantOf formOf allOf matches trees fits utf8 completes next started Option·elim names same toAsciiLowercase firstFrom getSpecialProperty _>>=_ _>>_ pure refuse create-label stack-size assume-stack-delta action-with-stack-delta mark-label mark-default push add define-function meanings generate-actions script-to-actions encode nest word zero-ended stored code-bytes position
+unfolding compileWith loweredWith checkOf rulesHold layoutOf wordAt endAt stringAt stringsFrom stringsOf rowAt rowsFrom rowsOf spanAt forestIn forest allBelow partedIn parted recordHolds rootHolds allUtf8 allSupported treeIn depth scriptOf mapForest resolved recordOf plainOf statementKinds signed binaryOperators constantOf formOf allOf matches trees fits utf8 completes next started Option·elim names same toAsciiLowercase firstFrom getSpecialProperty _>>=_ _>>_ pure refuse create-label stack-size assume-stack-delta action-with-stack-delta mark-label mark-default push add define-function meanings generate-actions script-to-actions encode nest word zero-ended stored code-bytes position
 files = refl
 
 -- that a file is of bytes is no empty premise

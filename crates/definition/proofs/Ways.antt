@@ -19,9 +19,38 @@ use Rattle.action_format.specs.Decode.{decode}
 use Rattle.list_slice.specs.Words.{sliceLength}
 use Rattle.definition.specs.Outcome.{Outcome, compiled, refused, Reading, read, byPlace, byteLimits}
 use Rattle.definition.specs.Outcome as outcome
-use Rattle.definition.specs.Compile.{listsOf, inSlice, ifAccepted, ifLowered, written, compileWith}
+use Rattle.definition.specs.Compile.{listsOf, inSlice, ifAccepted, loweredWith, ifLowered, written, compileWith}
 use Rattle.definition.specs.Read as reading
 use Rattle.definition.specs.Read.{readWith}
+
+module _ (lim : Limits) (file : List ℕ) (listWords : ℕ) where
+  pub data LoweredWay : lowering.Lists → Type 0 where
+    short-slice : listWords < sliceLength lim → LoweredWay (lowering.refusal 13)
+    not-accepted : {n : ℕ} → sliceLength lim ≤ listWords → checkOf file ≡ suc n → LoweredWay (lowering.refusal (suc n))
+    lowered : {l : lowering.Lists} → sliceLength lim ≤ listWords → checkOf file ≡ 0 → listsOf lim file ≡ l → LoweredWay l
+
+  pub lowered-way : LoweredWay (loweredWith lim file listWords)
+  unfolding loweredWith
+  lowered-way = slice (ltb listWords (sliceLength lim)) refl
+    where
+      check : sliceLength lim ≤ listWords → (n : ℕ) → checkOf file ≡ n → LoweredWay (ifAccepted n (listsOf lim file))
+      check s zero e = lowered s e refl
+      check s (suc n) e = not-accepted s e
+
+      slice : (b : Bool) → ltb listWords (sliceLength lim) ≡ b → LoweredWay (inSlice b (ifAccepted (checkOf file) (listsOf lim file)))
+      slice true e = short-slice (ltb-true listWords (sliceLength lim) e)
+      slice false e = check (ltb-false listWords (sliceLength lim) e) (checkOf file) refl
+
+  pub record Lowered (ls : List (List Item)) : Type 0 where
+    pub in-slice : sliceLength lim ≤ listWords
+    pub accepted : checkOf file ≡ 0
+    pub from : listsOf lim file ≡ lowering.lists ls
+
+  pub lowered-by : (ls : List (List Item)) → loweredWith lim file listWords ≡ lowering.lists ls → Lowered ls
+  lowered-by ls e = go (subst LoweredWay e lowered-way)
+    where
+      go : LoweredWay (lowering.lists ls) → Lowered ls
+      go (lowered s c l) = record { in-slice = s; accepted = c; from = l }
 
 module _ (lim : Limits) (file : List ℕ) (listWords room : ℕ) where
   pub data Way : Outcome → Type 0 where
@@ -35,7 +64,7 @@ module _ (lim : Limits) (file : List ℕ) (listWords room : ℕ) where
 
   pub way : Way (compileWith lim file listWords room)
   unfolding compileWith
-  way = slice (ltb listWords (sliceLength lim)) refl
+  way = go (loweredWith lim file listWords) (lowered-way lim file listWords)
     where
       answer : sliceLength lim ≤ listWords → checkOf file ≡ 0 → (ls : List (List Item)) → listsOf lim file ≡ lowering.lists ls →
           (a : action_format.Answer) → encode (byPlace ls) room ≡ a → Way (written ls a)
@@ -46,17 +75,14 @@ module _ (lim : Limits) (file : List ℕ) (listWords room : ℕ) where
       lists s c (lowering.refusal n) e = not-lowered s c e
       lists s c (lowering.lists ls) e = answer s c ls e (encode (byPlace ls) room) refl
 
-      check : sliceLength lim ≤ listWords → (n : ℕ) → checkOf file ≡ n → Way (ifAccepted n (ifLowered (listsOf lim file) room))
-      check s zero e = lists s e (listsOf lim file) refl
-      check s (suc n) e = not-accepted s e
-
-      slice : (b : Bool) → ltb listWords (sliceLength lim) ≡ b → Way (inSlice b (ifAccepted (checkOf file) (ifLowered (listsOf lim file) room)))
-      slice true e = short-slice (ltb-true listWords (sliceLength lim) e)
-      slice false e = check (ltb-false listWords (sliceLength lim) e) (checkOf file) refl
+      go : (l : lowering.Lists) → LoweredWay lim file listWords l → Way (ifLowered l room)
+      go _ (LoweredWay.short-slice h) = short-slice h
+      go _ (LoweredWay.not-accepted s c) = not-accepted s c
+      go l (lowered s c e) = lists s c l e
 
   -- and each way leads to its outcome
   pub outcome-of : {o : Outcome} → Way o → compileWith lim file listWords room ≡ o
-  unfolding compileWith
+  unfolding compileWith loweredWith
   outcome-of (short-slice h) = rw (lt-ltb listWords (sliceLength lim) h)
   outcome-of (not-accepted s c) = rw (le-ltb listWords (sliceLength lim) s, c)
   outcome-of (not-lowered s c l) = rw (le-ltb listWords (sliceLength lim) s, c, l)

@@ -26,14 +26,21 @@ abbrev pub listsOf : Limits → List ℕ → lowering.Lists
 listsOf lim file = script-to-actions lim (statementsOf file)
 
 -- 13 if the list slice is too short
-abbrev pub inSlice : (short : Bool) → Outcome → Outcome
-inSlice true o = refused 13
-inSlice false o = o
+abbrev pub inSlice : (short : Bool) → lowering.Lists → lowering.Lists
+inSlice true l = lowering.refusal 13
+inSlice false l = l
 
 -- the check's refusal; its number is 0 if it has none
-abbrev pub ifAccepted : (number : ℕ) → Outcome → Outcome
-ifAccepted zero o = o
-ifAccepted (suc n) o = refused (suc n)
+abbrev pub ifAccepted : (number : ℕ) → lowering.Lists → lowering.Lists
+ifAccepted zero l = l
+ifAccepted (suc n) l = lowering.refusal (suc n)
+
+-- 13; then 4 (bytes), 1, 2, 3, 4 (depth); then the first of 5 to 8
+unfoldable pub loweredWith : Limits → (file : List ℕ) → (listWords : ℕ) → lowering.Lists
+loweredWith lim file listWords =
+    inSlice (ltb listWords (sliceLength lim))
+    (ifAccepted (checkOf file)
+    (listsOf lim file))
 
 -- the bytes of lists, or refusal 9, 10, 11 or 12
 abbrev pub written : List (List Item) → action_format.Answer → Outcome
@@ -44,12 +51,9 @@ abbrev pub ifLowered : lowering.Lists → (room : ℕ) → Outcome
 ifLowered (lowering.refusal n) room = refused n
 ifLowered (lowering.lists ls) room = written ls (encode (byPlace ls) room)
 
--- 13; then 4 (bytes), 1, 2, 3, 4 (depth); then the first of 5 to 8; then 9, 10, 11, 12
+-- lowering, and then 9, 10, 11, 12
 unfoldable pub compileWith : Limits → (file : List ℕ) → (listWords room : ℕ) → Outcome
-compileWith lim file listWords room =
-    inSlice (ltb listWords (sliceLength lim))
-    (ifAccepted (checkOf file)
-    (ifLowered (listsOf lim file) room))
+compileWith lim file listWords room = ifLowered (loweredWith lim file listWords) room
 
 -- at document 01's limits
 abbrev pub compileOf : (file : List ℕ) → (listWords room : ℕ) → Outcome

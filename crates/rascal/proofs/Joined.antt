@@ -1,20 +1,17 @@
 -- Lowering and writing joined: what they leave is what the compile call's definition says.
-use Prim.Native.Nat.{ℕ, zero, suc, _≤_, _<_}
-use mathlib.Core.Path.{_≡_, refl, ap, sym, _∙_, subst}
+use Prim.Native.Nat.{ℕ, _≤_, _<_}
+use mathlib.Core.Path.{_≡_, refl, ap, sym, _∙_}
 use mathlib.Core.List.{List, [], _∷_, _++_}
 use mathlib.Core.Bool.{Bool, true, false}
 use native.Mathlib.Omega.{arith}
-use lib.Dec.{ltb, leb, lit≤}
+use lib.Dec.{leb}
 use lib.ListN.{length, length-append}
-use borrow.Author.Tests.{ltb-false, le-ltb}
-use Rattle.pcode.specs.Pcode.{Item}
-use Rattle.script.specs.Rules.{checkOf}
+use borrow.Author.Tests.{le-ltb}
 use Rattle.lowering.specs.Builder.{limits01}
 use Rattle.lowering.specs.Statement as lowering
-use Rattle.lowering.proofs.Theorems.Facts.{All, Labels-below}
-use Rattle.lowering.proofs.Theorems.{top-first, labels-below}
 use Rattle.list_slice.specs.Words.{zerosOf}
-use Rattle.list_slice.specs.Compiled.{Holds}
+use Rattle.list_slice.proofs.Areas.{zeros-length}
+use Rattle.zeros.proofs.Clearing.{zeros-zeros}
 use Rattle.action_format.specs.Lists.{Lists}
 use Rattle.action_format.specs.Strings.{zero-free}
 use Rattle.action_format.specs.Code.{code}
@@ -22,22 +19,17 @@ use Rattle.action_format.specs.Bytes.{code-bytes}
 use Rattle.action_format.specs.Offsets.{by-offset, all-near}
 use Rattle.action_format.specs.Encode as action_format
 use Rattle.action_format.specs.Encode.{encode, short, unless-refused}
-use Rattle.definition.specs.Outcome.{Outcome, compiled, refused, byPlace, numberOf, lengthOf, outputOf}
-use Rattle.definition.specs.Compile as call
-use Rattle.definition.specs.Compile.{statementsOf, listsOf, written, ifLowered, compileWith}
-use Rattle.definition.specs.Left.{Compiles, LeftList}
+use Rattle.definition.specs.Outcome.{Outcome, refused, byPlace, numberOf, lengthOf, outputOf}
+use Rattle.definition.specs.Compile.{listsOf, loweredWith, written, ifLowered, compileWith}
+use Rattle.definition.specs.Left.{Compiles, LeftList, outcomeLists}
+use Rattle.definition.proofs.Ways.{lowered-by}
 use Rattle.as2_codegen.specs.declared.Lowered as code
 use Rattle.as2_codegen.specs.declared.Lowered.the-variants as answer
-use Rattle.as2_codegen.specs.Lowering as lowered
-use Rattle.as2_codegen.specs.Lowering.{loweredWith, inSlice, ifAccepted, answerOf, Lowers}
-use Rattle.as2_codegen.proofs.Meets.{zeros-length, zeros-zeros}
+use Rattle.as2_codegen.specs.Lowering.{answerOf, Lowers}
 use Rattle.resolver.specs.Lowered.{Lowered}
 use Rattle.action_writer.specs.declared.Written.{Written}
 use Rattle.action_writer.specs.declared.Written.the-variants as writer
 use Rattle.action_writer.specs.Outcomes.{Leaves}
-
-some-action : 1 ≤ limits01 .actions
-some-action = lit≤ tt
 
 -- what writing gives: bytes, of which there are some, or a refusal from 9 on
 module _ where
@@ -68,59 +60,20 @@ module _ where
   known l room = by-tests (zero-free l) (short (code l)) (all-near (code l)) (leb (length (action_format.written (code l))) room) (action_format.bytes (action_format.written (code l)))
       (record { filled = λ b e. some-bytes (code-bytes (by-offset (code l))) b e; late = λ k e. let z : _≡_ {A = ℕ} 0 1 = cc in absurd (omega arith) })
 
--- the compile call is lowering, then writing
-module _ (F : List ℕ) (n room : ℕ) where
-  pub by-lowering : compileWith limits01 F n room ≡ ifLowered (loweredWith limits01 F n) room
-  unfolding compileWith loweredWith
-  by-lowering = slice (ltb n 16384)
-    where
-      file : (k : ℕ) → call.ifAccepted k (ifLowered (listsOf limits01 F) room) ≡ ifLowered (ifAccepted k (listsOf limits01 F)) room
-      file zero = refl
-      file (suc k) = refl
-
-      slice : (b : Bool) →
-          call.inSlice b (call.ifAccepted (checkOf F) (ifLowered (listsOf limits01 F) room)) ≡
-          ifLowered (inSlice b (ifAccepted (checkOf F) (listsOf limits01 F))) room
-      slice true = refl
-      slice false = file (checkOf F)
-
--- what lists say of the steps before them
 module _ (F : List ℕ) (n : ℕ) where
-  record Ways (ls : List (List Item)) : Type 0 where
-    room : 16384 ≤ n
-    accepted : checkOf F ≡ 0
-    from : listsOf limits01 F ≡ lowering.lists ls
-
-  ways : (ls : List (List Item)) → loweredWith limits01 F n ≡ lowering.lists ls → Ways ls
-  unfolding loweredWith
-  ways ls e = slice (ltb n 16384) refl e
-    where
-      file : 16384 ≤ n → (k : ℕ) → checkOf F ≡ k → ifAccepted k (listsOf limits01 F) ≡ lowering.lists ls → Ways ls
-      file h zero c e = record { room = h; accepted = c; from = e }
-      file h (suc k) c e = let z : _≡_ {A = ℕ} 0 1 = cc in absurd (omega arith)
-
-      slice : (b : Bool) → ltb n 16384 ≡ b → inSlice b (ifAccepted (checkOf F) (listsOf limits01 F)) ≡ lowering.lists ls → Ways ls
-      slice true q e = let z : _≡_ {A = ℕ} 0 1 = cc in absurd (omega arith)
-      slice false q e = file (ltb-false n 16384 q) (checkOf F) refl e
-
-  few : (ls : List (List Item)) → listsOf limits01 F ≡ lowering.lists ls → All (Labels-below 1024) ls
-  few ls e =
-      let x = top-first limits01 some-action (statementsOf F) ls e in
-      subst (All (Labels-below 1024)) (sym (x .2)) (labels-below limits01 some-action (statementsOf F) (x .0) (x .1) (e ∙ ap lowering.lists (x .2)))
-
   -- lists were made: what the writer asks
   module _ (w : List ℕ) where
-    made : (x : lowering.Lists) → loweredWith limits01 F n ≡ x → answer.Lists ≡ answerOf x → lowered.LeftList limits01 F x w → Lowered F w
+    made : (x : lowering.Lists) → loweredWith limits01 F n ≡ x → answer.Lists ≡ answerOf x → LeftList limits01 F x w → Lowered F w
     made (lowering.lists ls) e a h =
-        let y = ways ls e in
-        record { lists = ls; holds = h; from = y .from; accepted = y .accepted; few-labels = few ls (y .from) }
+        let y = lowered-by limits01 F n ls e in
+        record { lists = ls; holds = h; from = y .from; accepted = y .accepted }
     made (lowering.refusal k) e a h = let z : _≡_ {A = ℕ} 0 1 = cc in absurd (omega arith)
 
     pub lowered-lists : Lowers limits01 F n answer.Lists w → Lowered F w
     lowered-lists l = made (loweredWith limits01 F n) refl (l .answer) (l .whole-list)
 
     roomy : (x : lowering.Lists) → loweredWith limits01 F n ≡ x → answer.Lists ≡ answerOf x → 16384 ≤ n
-    roomy (lowering.lists ls) e a = ways ls e .room
+    roomy (lowering.lists ls) e a = lowered-by limits01 F n ls e .in-slice
     roomy (lowering.refusal k) e a = let z : _≡_ {A = ℕ} 0 1 = cc in absurd (omega arith)
 
     pub lowered-room : Lowers limits01 F n answer.Lists w → 16384 ≤ n
@@ -128,12 +81,12 @@ module _ (F : List ℕ) (n : ℕ) where
 
     -- none were made
     module _ (room k : ℕ) (out : List ℕ) (zeros : out ≡ zerosOf room) where
-      stopped : (x : lowering.Lists) → loweredWith limits01 F n ≡ x → answer.Refused k ≡ answerOf x → lowered.LeftList limits01 F x w → length w ≡ n →
+      stopped : (x : lowering.Lists) → loweredWith limits01 F n ≡ x → answer.Refused k ≡ answerOf x → LeftList limits01 F x w → length w ≡ n →
           Compiles limits01 F n room k 0 out w
-      unfolding zerosOf
+      unfolding zerosOf compileWith
       stopped (lowering.lists ls) e a h l = let z : _≡_ {A = ℕ} 0 1 = cc in absurd (omega arith)
       stopped (lowering.refusal m) e a h l =
-          let q : compileWith limits01 F n room ≡ refused m = by-lowering F n room ∙ rw e in
+          let q : compileWith limits01 F n room ≡ refused m = rw e in
           let same : k ≡ m = cc in
           record { answer = rw q same; bytes = rw q; whole-output = rw q zeros; list-length = l; whole-list = rw q h }
 
@@ -146,17 +99,17 @@ module _ (F w : List ℕ) (h : Lowered F w) (n room : ℕ) (long : 16384 ≤ n) 
   outcome = ifLowered (listsOf limits01 F) room
 
   is : compileWith limits01 F n room ≡ outcome
-  unfolding compileWith
+  unfolding compileWith loweredWith
   is = rw (le-ltb n 16384 long, h .accepted)
 
   of-lists : outcome ≡ written (h .lists) (encode (byPlace (h .lists)) room)
   of-lists = rw (h .from)
 
-  holding : (y : action_format.Answer) → Known y → 0 ≡ numberOf (written (h .lists) y) → LeftList limits01 F (written (h .lists) y) w
+  holding : (y : action_format.Answer) → Known y → 0 ≡ numberOf (written (h .lists) y) → LeftList limits01 F (outcomeLists (written (h .lists) y)) w
   holding (action_format.bytes b) k e = h .holds
   holding (action_format.refused m) k e = absurd (omega (arith, k .late m refl))
 
-  cleared : (y : action_format.Answer) → Known y → 0 ≡ lengthOf (written (h .lists) y) → LeftList limits01 F (written (h .lists) y) (zerosOf n)
+  cleared : (y : action_format.Answer) → Known y → 0 ≡ lengthOf (written (h .lists) y) → LeftList limits01 F (outcomeLists (written (h .lists) y)) (zerosOf n)
   cleared (action_format.bytes b) k e = absurd (omega (arith, k .filled b refl))
   cleared (action_format.refused m) k e = zeros-zeros n
 

@@ -16,7 +16,7 @@ use Rattle.list_slice.specs.Compiled.{Holds}
 use Rattle.definition.specs.Outcome.{Outcome, compiled, byPlace, lengthOf, outputOf}
 use Rattle.definition.specs.Compile.{compileOf}
 use Rattle.definition.specs.Demand3.{Begins, Same-lists, listAt, Lands-at-its-mark}
-use Rattle.definition.specs.Left.{LeftList}
+use Rattle.definition.specs.Left.{LeftList, outcomeLists}
 use Rattle.definition.proofs.Theorems as definition
 use Rattle.rascal.specs.TwoCalls.{Call, call-bytes, lists-of, call-lists}
 
@@ -51,7 +51,7 @@ module _ (c : Call) where
   pub slice-holds : Holds limits01 (c .file) (call-lists c) (c .list)
   slice-holds =
       subst (λ (ls : List (List Item)). Holds limits01 (c .file) ls (c .list)) (sym lists-are)
-      (subst (λ (o : Outcome). LeftList limits01 (c .file) o (c .list)) (s .is) (c .compiles .whole-list))
+      (subst (λ (o : Outcome). LeftList limits01 (c .file) (outcomeLists o) (c .list)) (s .is) (c .compiles .whole-list))
 
   -- for every Jump and If of every list, function bodies included, its own list marks its label at exactly one place, and the branch lands there, in its own
   -- body: on the first byte of one of that list's actions or at that body's end

@@ -1,7 +1,6 @@
 -- The words of demand 3, of what calls leave: a call's bytes are the first of its output, as many as its length; its lists are the definition's for its file
 -- and whatever else it takes.
 use Prim.Native.Nat.{ℕ}
-use mathlib.Core.Path.{_≡_}
 use mathlib.Core.List.{List, []}
 use lib.ListN.{take}
 use Rattle.pcode.specs.Pcode.{Item}

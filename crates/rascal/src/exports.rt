@@ -2,8 +2,6 @@
 // number.
 ghost use mathlib.Core.Path.{_≡_};
 ghost use lib.ListN.{length};
-ghost use Rattle.lowering.specs.Builder.{limits01};
-ghost use Rattle.definition.specs.Left.{Compiles, Reads};
 ghost use Rattle.rascal.specs.Calls.{compiledWord, readWord, CompilesTo, ReadsTo};
 use crate::Compiled;
 use crate::compile;

@@ -1,5 +1,4 @@
 // The two calls: a script file is compiled into the list slice and the output, and action bytes are read into the list slice.
-ghost use mathlib.Core.Path.{_≡_};
 ghost use Prim.Native.Nat.{_≤_};
 ghost use lib.ListN.{length};
 ghost use Rattle.lowering.specs.Builder.{limits01};
@@ -12,6 +11,8 @@ use action_writer::Written;
 use action_writer::write;
 use as2_codegen::Lowered;
 use as2_codegen::script_to_actions;
+use zeros::clear_bytes;
+use zeros::clear_words;
 
 pub mod exports;
 
@@ -31,7 +32,7 @@ fn write_lists(file: &[u8], list: &mut [u32], output: &mut [u8]) -> Compiled
     match written {
         Written::Bytes(n) => Compiled::Bytes(n),
         Written::Refused(n) => {
-            as2_codegen::clear(list);
+            clear_words(list);
             Compiled::Refused(n)
         }
     }
@@ -44,7 +45,7 @@ pub fn compile(file: &[u8], list: &mut [u32], output: &mut [u8]) -> Compiled
     match lowered {
         Lowered::Lists => write_lists(file, list, output),
         Lowered::Refused(number) => {
-            action_writer::clear(output);
+            clear_bytes(output);
             Compiled::Refused(number)
         }
     }

@@ -1,16 +1,17 @@
 -- Each list of an accepted file stands between its ends, and its entries can be walked.
-use Prim.Native.Nat.{ℕ, zero, suc, _+_, _-_, _*_, _≤_, _<_}
+use Prim.Native.Nat.{ℕ, zero, suc, _+_, _-_, _≤_, _<_}
 use mathlib.Core.Path.{_≡_, refl, sym, ap, _∙_, subst}
-use mathlib.Core.List.{List, [], _∷_, _++_, map, reverse, reverseAux, List·Memᴰ, List·Memᴰ·head, Memᴰ·append-right}
-use mathlib.Core.Bool.{Bool, true, false, cond, _&&_}
+use mathlib.Core.List.{List, [], _∷_, _++_, map, reverseAux, List·Memᴰ·head, Memᴰ·append-right}
 use native.Mathlib.Omega.{arith}
-use lib.Dec.{T}
+use lib.Dec.{T, lit≤}
 use lib.ListN.{length, getD, List·getD-map, length-map}
 use Rattle.pcode.specs.Pcode.{Action, Item, plain, push, branch, define, action, mark}
 use Rattle.script.specs.Write.{Bytes}
 use Rattle.lowering.specs.Builder.{limits01}
+use Rattle.lowering.specs.Statement as lowering
 use Rattle.lowering.proofs.Theorems.Facts as facts
-use Rattle.lowering.proofs.Theorems.Facts.{branches}
+use Rattle.lowering.proofs.Theorems.Facts.{Labels-below}
+use Rattle.lowering.proofs.Theorems.{top-first, labels-below}
 use Rattle.action_format.specs.ByPlace.{actions, rebranch, place-of, by-place}
 use Rattle.action_format.specs.Lists.{Lists, all-lists, all}
 use Rattle.action_format.specs.Rules.{fits, list-fits, pool-count, OfLowering}
@@ -19,17 +20,18 @@ use Rattle.action_format.proofs.Tests.{All, and-first, and-second, all-true, al
 use Rattle.action_format.proofs.Finished.{Named}
 use Rattle.action_format.proofs.Complete.{operands}
 use Rattle.action_format.proofs.Landing.{are-named}
-use Rattle.list_slice.specs.Entry.{Entry, Piece, entryOf, entriesOf, pieceOf}
+use Rattle.list_slice.specs.Entry.{Piece, entryOf, entriesOf, pieceOf}
 use Rattle.list_slice.specs.Words.{joined, entryAt, run}
 use Rattle.list_slice.specs.Items.{References, added}
-use Rattle.list_slice.specs.Compiled.{piece-named, Holds}
+use Rattle.list_slice.specs.Compiled.{piece-named}
 use Rattle.list_slice.specs.Compiled as compiled
 use Rattle.list_slice.proofs.Laid.{run-length}
 use Rattle.list_slice.proofs.Pieces.{piece-back}
 use Rattle.definition.specs.Outcome.{byPlace, byteLimits}
+use Rattle.definition.specs.Compile.{statementsOf}
 use Rattle.definition.specs.Demand3.{listAt}
 use Rattle.definition.proofs.Kept.{kept-lists}
-use Rattle.resolver.specs.Lowered.{Few-labels, Lowered}
+use Rattle.resolver.specs.Lowered.{Lowered}
 use Rattle.resolver.specs.Walk.{countOf, endOf, startOf, pieceAt, referencesIn, walked}
 use Rattle.resolver.specs.Texts.{Operand, Known}
 use Rattle.resolver.specs.Steps.{Fine, Standing}
@@ -44,7 +46,7 @@ list-by-place (t ∷ fs) zero = refl
 list-by-place (t ∷ fs) (suc k) = List·getD-map by-place fs k []
 
 -- items of a list that lowering made
-fine-items : (f : ℕ → ℕ) (pool n : ℕ) (fs : List (List Action)) (is : List Item) → Few-labels is → T (all (fits pool n) (map (rebranch f) (actions is))) →
+fine-items : (f : ℕ → ℕ) (pool n : ℕ) (fs : List (List Action)) (is : List Item) → Labels-below 1024 is → T (all (fits pool n) (map (rebranch f) (actions is))) →
     All (Named fs) (map (rebranch f) (actions is)) → length fs < 1024 → All Fine is
 fine-items f pool n fs [] l t m s = tt
 fine-items f pool n fs (mark x ∷ is) l t m s = (tt, fine-items f pool n fs is l t m s)
@@ -61,7 +63,7 @@ all-aux : (xs ys : List Item) → All Fine xs → All Fine ys → All Fine (reve
 all-aux [] ys h k = k
 all-aux (x ∷ xs) ys h k = all-aux xs (x ∷ ys) (h .1) (h .0, k)
 
-labels-at : (ls : List (List Item)) (k : ℕ) → facts.All Few-labels ls → Few-labels (listAt ls k)
+labels-at : (ls : List (List Item)) (k : ℕ) → facts.All (Labels-below 1024) ls → Labels-below 1024 (listAt ls k)
 labels-at [] k h = λ x q. elim q [ ]
 labels-at (l ∷ ls) zero h = h .0
 labels-at (l ∷ ls) (suc k) h = labels-at ls k (h .1)
@@ -124,6 +126,12 @@ module _ {F w : List ℕ} (h : Lowered F w) (bytes : Bytes F) where
   pub made : OfLowering (byteLimits limits01) (byPlace (h .lists))
   made = kept-lists limits01 (omega arith) F bytes (h .accepted) (h .lists) (h .from)
 
+  few-labels : facts.All (Labels-below 1024) (h .lists)
+  few-labels =
+      let some : 1 ≤ limits01 .actions = lit≤ tt in
+      let x = top-first limits01 some (statementsOf F) (h .lists) (h .from) in
+      subst (facts.All (Labels-below 1024)) (sym (x .2)) (labels-below limits01 some (statementsOf F) (x .0) (x .1) (h .from ∙ ap lowering.lists (x .2)))
+
   few-functions : length (byPlace (h .lists) .functions) < 1024
   few-functions = rw (split h .2) (omega (arith, lists-count h, few-lists h, length-map (split h .1) by-place))
 
@@ -132,7 +140,7 @@ module _ {F w : List ℕ} (h : Lowered F w) (bytes : Bytes F) where
       let l : Lists = byPlace (h .lists) in
       let is : List Item = listAt (h .lists) k in
       let t : T (list-fits (pool-count l) (list-of l k)) = all-at (list-fits (pool-count l)) (all-lists l) k tt (operands (byteLimits limits01) l made) in
-      fine-items (place-of is) (pool-count l) (length (by-place is)) (l .functions) is (labels-at (h .lists) k (h .few-labels)) (rw (list-by-place (h .lists) k) at t)
+      fine-items (place-of is) (pool-count l) (length (by-place is)) (l .functions) is (labels-at (h .lists) k few-labels) (rw (list-by-place (h .lists) k) at t)
       (rw (list-by-place (h .lists) k) at (are-named l (made .numbered) k)) few-functions
 
   module _ (j : ℕ) (below : j < countOf w) where

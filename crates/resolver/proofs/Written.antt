@@ -1,6 +1,6 @@
 -- The bytes of a body, as a writer that walks its list appends them.
-use Prim.Native.Nat.{ℕ, zero, suc, _+_, _-_, _<_}
-use mathlib.Core.Path.{_≡_, refl, sym, ap, ap₂, _∙_, subst}
+use Prim.Native.Nat.{ℕ, suc, _+_, _-_, _<_}
+use mathlib.Core.Path.{_≡_, refl, sym, ap, ap₂, _∙_}
 use mathlib.Core.List.{List, [], _∷_, _++_, map, reverse, append-assoc, append-nil}
 use native.Mathlib.Omega.{arith}
 use native.Mathlib.Nat.{zero-add}
@@ -9,18 +9,17 @@ use Rattle.pcode.specs.Pcode.{Action, Item, action, mark}
 use Rattle.script.specs.Write.{Bytes}
 use Rattle.action_format.specs.ByPlace.{actions, place-of, rebranch}
 use Rattle.action_format.specs.Lists.{Lists}
-use Rattle.action_format.specs.ByList.{list-of, body-bytes, action-bytes, actions-bytes}
+use Rattle.action_format.specs.ByList.{body-bytes, action-bytes, actions-bytes}
 use Rattle.action_format.proofs.Landing.{by-actions}
 use Rattle.list_slice.proofs.Read.{map-append}
 use Rattle.definition.specs.Outcome.{byPlace}
 use Rattle.definition.specs.Demand3.{listAt}
 use Rattle.resolver.specs.Lowered.{Lowered}
-use Rattle.resolver.specs.Walk.{countOf, indexOf, listFrom, listEnd, walked, walked-bytes}
-use Rattle.resolver.specs.Passes.{numberAt}
+use Rattle.resolver.specs.Walk.{countOf, walked-bytes}
+use Rattle.resolver.specs.Passes.{walkedAt, numberAt}
 use Rattle.resolver.proofs.Whole.{walked-list}
 use Rattle.resolver.proofs.Stand.{list-by-place}
 use Rattle.resolver.proofs.Sizing.{actions-append, actions-reverse, reverse-more, lists, rules}
-use Rattle.resolver.proofs.Answers.{number-index}
 
 bytes-last : (l : Lists) (k i : ℕ) (xs : List Action) (a : Action) → actions-bytes l k i (xs ++ (a ∷ [])) ≡ actions-bytes l k i xs ++ action-bytes l k (i + length xs) a
 bytes-last l k i [] a = let z : i ≡ i + 0 = omega arith in append-nil (action-bytes l k i a) ∙ ap (λ (n : ℕ). action-bytes l k n a) z
@@ -43,16 +42,13 @@ walked-bytes-are l k f (mark m ∷ is) =
     walked-bytes-are l k f is ∙ ap (λ (xs : List Action). actions-bytes l k 0 (map (rebranch f) xs))
     (sym (ap actions (reverse-more (mark m) is) ∙ actions-append (reverse is) (mark m ∷ []) ∙ append-nil (actions (reverse is))))
 
-module _ {F w : List ℕ} (h : Lowered F w) where
-  -- list k as it is walked
-  pub list-walked : (k : ℕ) → k < countOf w → listAt (h .lists) k ≡ reverse (walked F w (listFrom w k) (listEnd w k - listFrom w k))
-  list-walked k b =
-      let x = number-index (countOf w) k b in
-      ap (listAt (h .lists)) (sym (x .1)) ∙ sym (walked-list h (indexOf (countOf w) k) (x .0))
-
-  -- and its body's bytes
-  pub body-walked : Bytes F → (k : ℕ) → k < countOf w → body-bytes (byPlace (h .lists)) k ≡ walked-bytes (byPlace (h .lists)) k (place-of (listAt (h .lists) k)) (walked F w (listFrom w k) (listEnd w k - listFrom w k))
-  body-walked bytes k b =
-      by-actions (lists h bytes) (rules h bytes) k ∙ ap (actions-bytes (lists h bytes) k 0) (list-by-place (h .lists) k
-      ∙ ap (λ (is : List Item). map (rebranch (place-of (listAt (h .lists) k))) (actions is)) (list-walked k b))
-      ∙ sym (walked-bytes-are (lists h bytes) k (place-of (listAt (h .lists) k)) (walked F w (listFrom w k) (listEnd w k - listFrom w k)))
+module _ {F w : List ℕ} (h : Lowered F w) (bytes : Bytes F) where
+  -- the body of the list at place j
+  pub body-walked : (j : ℕ) → j < countOf w → body-bytes (byPlace (h .lists)) (numberAt (countOf w) j) ≡
+      walked-bytes (byPlace (h .lists)) (numberAt (countOf w) j) (place-of (listAt (h .lists) (numberAt (countOf w) j))) (walkedAt F w j)
+  body-walked j b =
+      let k : ℕ = numberAt (countOf w) j in
+      let f : ℕ → ℕ = place-of (listAt (h .lists) k) in
+      by-actions (lists h bytes) (rules h bytes) k
+      ∙ ap (actions-bytes (lists h bytes) k 0) (list-by-place (h .lists) k ∙ ap (λ (is : List Item). map (rebranch f) (actions is)) (sym (walked-list h j b)))
+      ∙ sym (walked-bytes-are (lists h bytes) k f (walkedAt F w j))

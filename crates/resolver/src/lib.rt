@@ -1,8 +1,8 @@
 // What the writer of action bytes needs of the compiled lists: the bytes of each body and the offset of each branch, or refusal 9, 10 or 11.
-pub mod branches;
-pub mod passes;
-pub mod text;
-pub mod walk;
+mod branches;
+mod passes;
+mod text;
+mod walk;
 
 ghost use mathlib.Core.Path.{_≡_};
 ghost use Prim.Native.Nat.{_≤_};

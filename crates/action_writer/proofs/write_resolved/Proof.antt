@@ -1,5 +1,6 @@
 -- `write_resolved` meets its contract.
-use Rattle.action_writer.proofs.Answers.{refused-leaves, resolved-is, is-writable, is-measured, top-leaves}
+use Rattle.action_writer.proofs.Answers.{refused-leaves, resolved-is, is-measured, top-leaves}
+use Rattle.action_writer.proofs.Ready.{writable}
 use native.Mathlib.Omega.{arith}
 use borrow.Author.Needs.{needs}
 use Rattle.action_writer.proofs.write_resolved.Statement.{statement}
@@ -12,7 +13,7 @@ returns : tie.Need-returns
 returns c = refused-leaves (c .before .before .before .before .before .before .before .pre .0) (c .before .resolve .ensures (c .before .before .before .before .before .before .before .pre .0)) (c .if1 .taken) (c .before .before .before .before .before .before .before .args .output .now) (c .before .before .before .before .before .before .before .pre .1 .1 .0)
 
 write-top-requires : tie.Need-write-top-requires
-write-top-requires c κs = (is-writable (c .before .before .before .before .before .before .before .before .before .before .pre .0) (λ i. omega (arith, c .before .before .before .before .before .before .before .before .before .shared-slice-known .given i)) (resolved-is (c .before .before .before .before .before .before .before .before .before .before .pre .0) (c .before .before .before .before .resolve .ensures (c .before .before .before .before .before .before .before .before .before .before .pre .0)) (c .before .before .before .if1 .left)) (c .before .before .before .before .before .before .before .before .before .before .args .l) (c .before .before .before .before .before .before .before .before .before .before .pre .1 .0), (is-measured (c .before .before .before .before .before .before .before .before .before .before .pre .0) (λ i. omega (arith, c .before .before .before .before .before .before .before .before .before .shared-slice-known .given i)) (resolved-is (c .before .before .before .before .before .before .before .before .before .before .pre .0) (c .before .before .before .before .resolve .ensures (c .before .before .before .before .before .before .before .before .before .before .pre .0)) (c .before .before .before .if1 .left)), c .before .before .before .before .before .before .before .before .before .before .pre .1 .1 .0))
+write-top-requires c κs = (writable (c .before .before .before .before .before .before .before .before .before .before .pre .0) (λ i. omega (arith, c .before .before .before .before .before .before .before .before .before .shared-slice-known .given i)) (resolved-is (c .before .before .before .before .before .before .before .before .before .before .pre .0) (c .before .before .before .before .resolve .ensures (c .before .before .before .before .before .before .before .before .before .before .pre .0)) (c .before .before .before .if1 .left)) (c .before .before .before .before .before .before .before .before .before .before .args .l) (c .before .before .before .before .before .before .before .before .before .before .pre .1 .0), (is-measured (c .before .before .before .before .before .before .before .before .before .before .pre .0) (λ i. omega (arith, c .before .before .before .before .before .before .before .before .before .shared-slice-known .given i)) (resolved-is (c .before .before .before .before .before .before .before .before .before .before .pre .0) (c .before .before .before .before .resolve .ensures (c .before .before .before .before .before .before .before .before .before .before .pre .0)) (c .before .before .before .if1 .left)), c .before .before .before .before .before .before .before .before .before .before .pre .1 .1 .0))
 
 same-length : tie.Need-same-length
 same-length c = search needs

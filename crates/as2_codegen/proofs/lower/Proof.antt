@@ -21,8 +21,8 @@ generate-actions-requires c κs =
     let begun = c .before .before .before .begin in
     generating (start .args .file .now) (start .pre .0) (c .before .before .before .before .before .before .layout-of .result) (c .before .before .before .before .before .statements-of .result) (c .before .before .before .before .before .before .layout-of .ensures) (c .before .before .before .before .before .statements-of .ensures) (begun .result) (begun .last .0) (begun .ensures (start .args .file .now))
 
-clear-requires : tie.Need-clear-requires
-clear-requires c κs = search needs
+clear-words-requires : tie.Need-clear-words-requires
+clear-words-requires c κs = search needs
 
 same-length : tie.Need-same-length
 same-length c = search needs
@@ -34,7 +34,7 @@ returns c =
     let step = c .before .before .before .before .before .before .before .before .generate-actions in
     let does = of-statements (start .args .file .now) (start .pre .0) (c .before .before .before .before .before .before .before .before .before .before .before .before .before .before .before .layout-of .result) (c .before .before .before .before .before .before .before .before .before .before .before .before .before .before .statements-of .result) (c .before .before .before .before .before .before .before .before .before .before .before .before .before .before .before .layout-of .ensures) (c .before .before .before .before .before .before .before .before .before .before .before .before .before .before .statements-of .ensures) (begun .result) (begun .last .0) (step .result) (step .last .1 .1 .1 .1 .0) (step .ensures) in
     let len : length (step .last .1 .1 .1 .1 .0) ≡ length (start .args .list .now) = search needs in
-    rw (c .before .before .clear .ensures, len) (lowers-refusal (start .args .file .now) (start .pre .0) (begun .result) (begun .last .0) (begun .ensures (start .args .file .now)) (step .result) (step .last .1 .1 .1 .1 .0) does (length (start .args .list .now)) (start .pre .1 .0) (c .before .before .before .before .if1 .taken))
+    rw (c .before .before .clear-words .ensures, len) (lowers-refusal (start .args .file .now) (start .pre .0) (begun .result) (begun .last .0) (begun .ensures (start .args .file .now)) (step .result) (step .last .1 .1 .1 .1 .0) does (length (start .args .list .now)) (start .pre .1 .0) (c .before .before .before .before .if1 .taken))
 
 into-actions-requires : tie.Need-into-actions-requires
 into-actions-requires c κs =
@@ -64,7 +64,7 @@ lower-spec =
     statements-of-requires
     begin-requires
     generate-actions-requires
-    clear-requires
+    clear-words-requires
     same-length
     returns
     into-actions-requires

@@ -23,8 +23,8 @@ write-lists-requires c κs =
 enum-known-lowered : tie.Need-enum-known-lowered
 enum-known-lowered c = search needs
 
-clear-requires : tie.Need-clear-requires
-clear-requires c κs = search needs
+clear-bytes-requires : tie.Need-clear-bytes-requires
+clear-bytes-requires c κs = search needs
 
 same-length : tie.Need-same-length
 same-length c = search needs
@@ -49,8 +49,8 @@ returns-2 : tie.Need-returns-2
 returns-2 c =
     let start = c .before .before .before .before .before .before .before .before .before .before .before .before .before .before in
     let low = c .before .before .before .before .before .before .before .before .before .script-to-actions in
-    when-stopped (start .args .file .now) (length (start .args .list .now)) (low .last .1 .0) (low .result) (low .ensures) (length (start .args .output .now)) _ (c .before .before .clear .last .0)
-    (c .before .before .clear .ensures) (c .before .before .before .before .before .lowered .given .1)
+    when-stopped (start .args .file .now) (length (start .args .list .now)) (low .last .1 .0) (low .result) (low .ensures) (length (start .args .output .now)) _ (c .before .before .clear-bytes .last .0)
+    (c .before .before .clear-bytes .ensures) (c .before .before .before .before .before .lowered .given .1)
 
 pub compile-spec : {M : Type 1} → statement M
 compile-spec =
@@ -60,7 +60,7 @@ compile-spec =
     enum-told
     write-lists-requires
     enum-known-lowered
-    clear-requires
+    clear-bytes-requires
     same-length
     same-length-2
     returns

@@ -14,8 +14,8 @@ enum-known-written c = search needs
 enum-known-written-2 : tie.Need-enum-known-written-2
 enum-known-written-2 c = search needs
 
-clear-requires : tie.Need-clear-requires
-clear-requires c κs = search needs
+clear-words-requires : tie.Need-clear-words-requires
+clear-words-requires c κs = search needs
 
 same-length : tie.Need-same-length
 same-length c = search needs
@@ -40,7 +40,7 @@ returns-2 : tie.Need-returns-2
 returns-2 c =
     let start = c .before .before .before .before .before .before .before .before .before .before .before .before .before .before .before in
     let wrote = c .before .before .before .before .before .before .before .before .before .write in
-    rw (c .before .before .clear .ensures)
+    rw (c .before .before .clear-words .ensures)
     (when-refused (start .args .file .now) (start .args .list .now) (start .pre .0) (length (start .args .list .now)) (length (start .args .output .now)) (start .pre .1) (wrote .result)
     (wrote .last .1 .1 .0) (wrote .ensures) _ (c .before .before .before .before .before .written2 .given .1))
 
@@ -51,7 +51,7 @@ write-lists-spec =
     write-requires
     enum-known-written
     enum-known-written-2
-    clear-requires
+    clear-words-requires
     same-length
     same-length-2
     returns

@@ -2,24 +2,24 @@ use Prim.Native.Nat.{_-_}
 use native.Mathlib.Omega.{arith}
 use borrow.Author.Needs.{needs}
 use lib.ListN.{length}
-use Rattle.action_reader.proofs.Ending.{Cleared, clear-holds, clear-again, clear-done}
-use Rattle.action_reader.proofs.reader.clear.Statement.{statement}
-use Rattle.action_reader.proofs.reader.clear.Tie as tie
+use Rattle.zeros.proofs.Clearing.{Cleared, clear-holds, clear-again, clear-done}
+use Rattle.zeros.proofs.clear_words.Statement.{statement}
+use Rattle.zeros.proofs.clear_words.Tie as tie
 
 abbrev Inv-loop : tie.InvT-loop
-Inv-loop list₀ i₀ list i = Cleared list₀ list i
+Inv-loop words₀ i₀ words i = Cleared words₀ words i
 
 abbrev μ-loop : tie.MeasureT-loop
-μ-loop list₀ i₀ list i = length list₀ - i
+μ-loop words₀ i₀ words i = length words₀ - i
 
 loop-holds : tie.Need-loop-holds Inv-loop μ-loop
 loop-holds c = clear-holds
 
-mul-list : tie.Need-mul-list Inv-loop μ-loop
-mul-list c = search needs
+mul-words : tie.Need-mul-words Inv-loop μ-loop
+mul-words c = search needs
 
-slice-write-list : tie.Need-slice-write-list Inv-loop μ-loop
-slice-write-list c = c .loop-test .taken
+slice-write-words : tie.Need-slice-write-words Inv-loop μ-loop
+slice-write-words c = c .loop-test .taken
 
 add-i : tie.Need-add-i Inv-loop μ-loop
 add-i c = search needs
@@ -36,15 +36,15 @@ same-length c = c .before .loop .inv .long
 returns : tie.Need-returns Inv-loop μ-loop
 returns c = clear-done (c .before .loop .inv) (c .loop-test .left)
 
-pub clear-spec : {M : Type 1} → statement M
-clear-spec =
+pub clear-words-spec : {M : Type 1} → statement M
+clear-words-spec =
     tie.close
     (tie.spec
     Inv-loop
     μ-loop
     loop-holds
-    mul-list
-    slice-write-list
+    mul-words
+    slice-write-words
     add-i
     loop-less
     loop-again
