@@ -1,13 +1,16 @@
 -- What a parent looks at in a child's record.
 use Prim.Native.Nat.{ℕ, zero, suc, _+_, _-_, _≤_}
 use mathlib.Core.Path.{_≡_, refl, sym}
-use mathlib.Core.Bool.{Bool, true, false, cond, not, _&&_}
+use mathlib.Core.Bool.{Bool, true, false, cond, not, _&&_, _||_, and-false, false≢true}
 use mathlib.Core.List.{List, [], _∷_}
 use native.Mathlib.Omega.{arith}
 use lib.Dec.{T, ltb, eqb}
 use lib.ListN.{length, getD}
 use borrow.Author.Tests.{ne-eqb}
+use Rattle.hir.specs.Hir.{Rec}
 use Rattle.hir.specs.Tree.{Forest}
+use Rattle.hir.specs.declared.ExprKind.{ExprKind}
+use Rattle.hir.specs.declared.ExprKind.the-variants as expr
 use Rattle.hir.specs.declared.Record.{Record}
 use Rattle.hir.specs.declared.Record.the-variants as kind
 use Rattle.hir.specs.declared.StatementKind.the-variants as statement
@@ -16,7 +19,7 @@ use Rattle.script_records.specs.declared.layout.Layout.{Layout}
 use Rattle.script_records.specs.declared.part.Part.{Part}
 use Rattle.script_records.specs.Layout.{Words, wordsOf, supported, rowsOf, layoutOf, stringAt}
 use Rattle.script_records.specs.Parts.{lastTree}
-use Rattle.script_records.specs.Decode.{statementKinds, plainOf, recordOf}
+use Rattle.script_records.specs.Decode.{statementKinds, exprKinds, plainOf, recordOf}
 use Rattle.script.specs.Resolve.{resolved}
 use Rattle.lowering.specs.Builder.{name-delta}
 use Rattle.lowering.specs.Meaning.{Meaning, Shape, param, hoisted, is-named, shapeOf, kid}
@@ -24,7 +27,7 @@ use Rattle.lowering.specs.Statement.{meanings}
 use Rattle.list_slice.specs.File.{textIn, namesString}
 use Rattle.tree.specs.declared.Node.{Node}
 use Rattle.tree.specs.Trees.{recOf, trees, nodeOf, kindAt}
-use Rattle.tree.specs.Within.{Within, record-named, kidAt, listAt}
+use Rattle.tree.specs.Within.{Within, IsList, record-named, kidAt, listAt}
 use Rattle.tree.proofs.Nodes.{is-node}
 use Rattle.tree.proofs.ByKind.{either}
 use Rattle.tree.proofs.Meanings.{kid-zero, list-zero}
@@ -124,6 +127,82 @@ pub of-other-kind : (F : List ℕ) (l : Layout) (p : Part) → Within F l p → 
 of-other-kind F l p w h =
     let i = is-node F l p w refl in
     sym (rw (kid-zero F l p i, list-zero F l p i) (root-of-kind F l p (meanings (trees F (nodeOf F l p .children))) h))
+
+-- a function has the kind 49
+abbrev Named : List ℕ → Record → Bool
+Named F r = is-named (shapeOf (recOf F r))
+
+-- none of the expressions that their place says all of is one
+anyNamed : List ℕ → List ExprKind → Bool
+anyNamed F [] = false
+anyNamed F (x ∷ xs) = Named F (kind.Expr x) || anyNamed F xs
+
+neither : (a b : Bool) → (a || b) ≡ false → (a ≡ false) × (b ≡ false)
+neither true b e = absurd (false≢true (sym e))
+neither false b e = (refl, e)
+
+none-named : (F : List ℕ) (xs : List ExprKind) → anyNamed F xs ≡ false → (i : ℕ) → Named F (kind.Expr (getD xs i expr.Call)) ≡ false
+unfolding anyNamed resolved
+none-named F [] e i = refl
+none-named F (x ∷ xs) e zero = neither (Named F (kind.Expr x)) (anyNamed F xs) e .0
+none-named F (x ∷ xs) e (suc i) = none-named F xs (neither (Named F (kind.Expr x)) (anyNamed F xs) e .1) i
+
+plain-unnamed : (F : List ℕ) → anyNamed F exprKinds ≡ false
+unfolding anyNamed exprKinds resolved
+plain-unnamed F = refl
+
+abbrev Unnamed : List ℕ → Record → Type 0
+Unnamed F r = Named F r ≡ false
+
+unnamed-kind : (F : List ℕ) (w : Words) → (w .kind ≡ 49 → ⊥) → Unnamed F (recordOf w)
+unfolding recordOf plainOf resolved
+unnamed-kind F w h =
+    let p = either (Unnamed F) in
+    let k = w .kind in
+    rw (ne-eqb k 49 h)
+    (p (eqb k 0) _ _ refl
+    (p (eqb k 5) _ _ refl
+    (p (eqb k 32) _ _ refl
+    (p (eqb k 40) _ _ refl
+    (p (eqb k 41) _ _ refl
+    (p (eqb k 52) _ _ refl
+    (p (eqb k 69) _ _ refl
+    (p (eqb k 75) _ _ refl
+    (p (eqb k 76) _ _ refl
+    (p (eqb k 97) _ _ refl
+    (p (eqb k 98) _ _ refl
+    (p (eqb k 99) _ _ refl
+    (p (not (supported k)) _ _ refl
+    (p (ltb k 16) _ _ refl
+    (p (ltb k 32) _ _ refl
+    (p (ltb k 78) _ _ (none-named F exprKinds (plain-unnamed F) (k - 32))
+    (p (eqb k 96) _ _ refl
+    (p (eqb k 100) _ _ refl
+    (p (eqb k 101) _ _ refl refl)))))))))))))))))))
+
+unnamed-root : (F : List ℕ) (l : Layout) (p : Part) → (kindAt F l p ≡ 49 → ⊥) → Unnamed F (nodeOf F l p .root)
+unfolding kindAt nodeOf resolved
+unnamed-root F l p h = by (eqb (p .n) 0) refl
+  where
+    by : (b : Bool) → eqb (p .n) 0 ≡ b → Unnamed F (nodeOf F l p .root)
+    by true e = rw e
+    by false e = rw e (unnamed-kind F (wordsOf (lastTree (rowsOf F l) p .row)) (rw e at h))
+
+unnamed-child : (r : Rec) (kids : Forest Meaning) → is-named (shapeOf (kid 0 kids .rec)) ≡ false → hoisted r kids ≡ false
+unnamed-child (Rec.Statement k) kids h = rw (h, and-false)
+unnamed-child (Rec.Expr k) kids h = refl
+unnamed-child Rec.Absent kids h = refl
+unnamed-child Rec.List kids h = refl
+unnamed-child Rec.Case kids h = refl
+unnamed-child Rec.Default kids h = refl
+unnamed-child Rec.Other kids h = refl
+unnamed-child (Rec.ObjectField key) kids h = refl
+unnamed-child (Rec.Parameter name r) kids h = refl
+
+pub of-other-child : (F : List ℕ) (l : Layout) (p : Part) {kids : Part} → IsList F l p 0 kids → (kindAt F l kids ≡ 49 → ⊥) → false ≡ hoisted (kidAt F p 0 .rec) (listAt F p 0)
+of-other-child F l p {kids} i h =
+    let n = is-node F l kids (i .within) refl in
+    sym (unnamed-child (kidAt F p 0 .rec) (listAt F p 0) (rw (i .means, kid-zero F l kids n) (unnamed-root F l kids h)))
 
 -- a function without a name leaves its value
 

@@ -53,6 +53,7 @@ use script_records::part::Part;
 use tree::Counts;
 use tree::Element;
 use tree::kind_at;
+use tree::list_at;
 use tree::node_at;
 use tree::rest_of;
 
@@ -292,12 +293,16 @@ fn is_named(file: &[u8], l: Layout, p: Part) -> bool
     }
 }
 
-// Most statements are none, which their kind tells.
+// Most statements are none, which their kind tells, and most of those that are expressions are no functions, which their child's kind tells.
 pub fn is_hoisted(file: &[u8], l: Layout, p: Part) -> bool
     requires { ⌜ Within (now file) l p ⌝ }
     ensures { λ r. ⌜ r ≡ hoisted (kidAt (now (file .entry)) p 0 .rec) (listAt (now (file .entry)) p 0) ⌝ }
 {
     if kind_at(file, l, p) != 3 {
+        return false;
+    }
+    let kids = list_at(file, l, p, 0);
+    if kind_at(file, l, kids) != 49 {
         return false;
     }
     is_named(file, l, p)

@@ -217,10 +217,13 @@ pub fn is_class(class: u32, kind: u32) -> bool
 // The limits of the scalars that do not depend on the strings.
 const LIMITS: [usize; 7] = [1, 2, 256, 257, 512, 43, 0x1_0000_0000];
 
-// A scalar is below this, in a file of so many strings.
+// A scalar is below this, in a file of so many strings. Most scalars are unused words: 0 comes first, before the table is copied to the stack.
 fn limit_of(digit: u32, strings: u32) -> usize
     ensures { λ r. ⌜ r ≡ limit strings (scalarFrom digit) ⌝ }
 {
+    if digit == 0 {
+        return 1;
+    }
     if digit < 7 {
         return LIMITS[digit as usize];
     }

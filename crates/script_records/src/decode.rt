@@ -204,18 +204,56 @@ const EXPR_KINDS: [ExprKind; 46] = [
     ExprKind::Simple(SimpleKind::ToggleQuality),
 ];
 
-fn statement_kind(place: usize) -> StatementKind
+fn statement_in_table(place: usize) -> StatementKind
     requires { ⌜ place < 16 ⌝ }
     ensures { λ r. ⌜ r ≡ getD statementKinds place StatementKind.Break ⌝ }
 {
     STATEMENT_KINDS[place]
 }
 
-fn expr_kind(place: usize) -> ExprKind
+fn expr_in_table(place: usize) -> ExprKind
     requires { ⌜ place < 46 ⌝ }
     ensures { λ r. ⌜ r ≡ getD exprKinds place ExprKind.Call ⌝ }
 {
     EXPR_KINDS[place]
+}
+
+// A table is copied to the stack wherever it is read, so the usual kinds have arms of their own.
+fn statement_kind(place: usize) -> StatementKind
+    requires { ⌜ place < 16 ⌝ }
+    ensures { λ r. ⌜ r ≡ getD statementKinds place StatementKind.Break ⌝ }
+{
+    match place {
+        1 => StatementKind::Return,
+        3 => StatementKind::Expr,
+        4 => StatementKind::Block,
+        6 => StatementKind::While,
+        7 => StatementKind::If,
+        8 => StatementKind::Break,
+        9 => StatementKind::Continue,
+        15 => StatementKind::Switch,
+        _ => statement_in_table(place),
+    }
+}
+
+fn expr_kind(place: usize) -> ExprKind
+    requires { ⌜ place < 46 ⌝ }
+    ensures { λ r. ⌜ r ≡ getD exprKinds place ExprKind.Call ⌝ }
+{
+    match place {
+        1 => ExprKind::Call,
+        2 => ExprKind::New,
+        10 => ExprKind::Ternary,
+        11 => ExprKind::InitObject,
+        12 => ExprKind::InitArray,
+        13 => ExprKind::Field,
+        18 => ExprKind::Simple(SimpleKind::GetVariable),
+        19 => ExprKind::Simple(SimpleKind::SetVariable),
+        34 => ExprKind::Simple(SimpleKind::Play),
+        35 => ExprKind::Simple(SimpleKind::Stop),
+        40 => ExprKind::Simple(SimpleKind::Trace),
+        _ => expr_in_table(place),
+    }
 }
 
 // Not one of the kinds that refusal 3 names.

@@ -41,6 +41,14 @@ module _ (F : List ℕ) (l : Layout) (p : Part) where
   unfolding nodeOf
   rest-made h e = rw (ne-eqb (p .n) 0 h, e)
 
+  pub kids-none : p .n ≡ 0 → p ≡ nodeOf F l p .children
+  unfolding nodeOf
+  kids-none h = rw (eq-eqb (p .n) 0 h)
+
+  pub kids-made : (p .n ≡ 0 → ⊥) → {t : Tree} → t ≡ lastTree (rowsOf F l) p → t .children ≡ nodeOf F l p .children
+  unfolding nodeOf
+  kids-made h e = rw (ne-eqb (p .n) 0 h, e)
+
 -- Case and Default have the kinds 100 and 101
 abbrev IsStatement : Record → Type 0
 IsStatement r = elementOf r ≡ Statement

@@ -15,7 +15,6 @@ use Rattle.script_records.specs.Layout.{layoutOf, stringAt}
 use Rattle.script.specs.Resolve.{resolved}
 use Rattle.lowering.specs.Meaning as meaning
 use Rattle.lowering.specs.Meaning.{width}
-use Rattle.tree.specs.declared.Node.{Node}
 use Rattle.tree.specs.declared.Element.{Element}
 use Rattle.tree.specs.declared.Element.the-variants.{Case, Default, Statement}
 use Rattle.tree.specs.declared.Counts.{Counts}
@@ -117,17 +116,18 @@ module _ (F : List ℕ) (l : Layout) (p : Part) where
     pub counted-few : Few found
     counted-few = record { trees = omega arith; labels = omega arith; cases = omega arith }
 
-    module _ {r : Node} (e : r ≡ nodeOf F l left) where
-      pub counted-less : r .children .n + r .before .n < left .n
-      counted-less = let d = is-node F l left (i .within) e .apart in omega arith
+    module _ {rest : Part} (e : rest ≡ nodeOf F l left .before) where
+      pub counted-less : rest .n < left .n
+      counted-less = let d = is-node F l left (i .within) refl .apart in rw e (omega arith)
 
-      pub counted-next : {x : Element} → x ≡ elementOf (r .root) → {more : Counts} → more ≡ withTree x found → Counted F l p more (r .before)
+      pub counted-next : {x : Element} → x ≡ elementOf (nodeOf F l left .root) → {more : Counts} → more ≡ withTree x found → Counted F l p more rest
       counted-next {x} q {more} s =
-          let node = is-node F l left (i .within) e in
+          let r = nodeOf F l left in
+          let node = is-node F l left (i .within) refl in
           let d = node .apart in
           let g = grown x found in
           let t : meaning.element (recOf F (r .root)) ≡ meant x = rw q (element-is (stringAt F (layoutOf F)) (r .root)) in
-          rw s
+          rw (s, e)
           (record {
             whole = sym (onto-more found (trees F (r .before)) (trees F (r .children)) (recOf F (r .root)) x t) ∙ ap (onto found) (sym (trees-more F l left node some-left)) ∙ i .whole;
             within = node .rest-within;

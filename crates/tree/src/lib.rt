@@ -158,11 +158,9 @@ pub fn counts_of(file: &[u8], l: Layout, p: Part) -> Counts
     };
     let mut left = p;
     while left.n != 0 {
-        let node = node_at(file, l, left);
-        let root = node.root;
-        let element = element_of(root);
+        let element = element_at(file, l, left);
         found = with_tree(element, found);
-        let before = node.before;
+        let before = rest_of(file, l, left);
         left = before;
     }
     found
@@ -176,8 +174,7 @@ pub fn kid_at(file: &[u8], l: Layout, p: Part, n: u32) -> Part
     let mut left = p;
     let mut i: u32 = 0;
     while i < n {
-        let node = node_at(file, l, left);
-        let before = node.before;
+        let before = rest_of(file, l, left);
         left = before;
         i += 1;
     }
@@ -189,6 +186,9 @@ pub fn list_at(file: &[u8], l: Layout, p: Part, n: u32) -> Part
     ensures { λ r. ⌜ IsList (now (file .entry)) l p n r ⌝ }
 {
     let kid = kid_at(file, l, p, n);
-    let node = node_at(file, l, kid);
-    node.children
+    if kid.n == 0 {
+        return kid;
+    }
+    let t = last_tree(file, l, kid);
+    t.children
 }

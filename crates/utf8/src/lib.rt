@@ -1,7 +1,10 @@
 ghost use mathlib.Core.Path.{_≡_};
+ghost use mathlib.Core.Bool.{true};
 ghost use mathlib.Core.List.{[]};
-ghost use Rattle.utf8.specs.Utf8.{utf8, next};
-ghost use Rattle.utf8.specs.State.{ranges, rangesAfter};
+ghost use Prim.Native.Nat.{_+_, _≤_};
+ghost use lib.ListN.{length, drop};
+ghost use Rattle.utf8.specs.Utf8.{utf8, next, completes};
+ghost use Rattle.utf8.specs.State.{ranges, rangesAfter, completesAfter, Ascii};
 
 // What a char that has started still owes: as many bytes as `tails`, the first of them from `low` to `high`, the others from 80 to BF.
 struct Owed {
@@ -56,6 +59,53 @@ fn next(owed: Owed, b: u8) -> Step
     taken(owed.tails - 1, 0x80, 0xBF)
 }
 
+// Whether the 32 bytes from a position on are ASCII. No byte ends the search, so that the compiler looks at many of them at once.
+fn is_ascii(s: &[u8], from: usize) -> bool
+    requires { ⌜ from + 32 ≤ length (now s) ⌝ }
+    ensures { λ r. ⌜ (r ≡ true → Ascii (now (s .entry)) from 32) ⌝ }
+{
+    let mut most: u8 = 0;
+    let mut i: usize = 0;
+    while i < 32 {
+        let b = s[from + i];
+        if most < b {
+            most = b;
+        }
+        i += 1;
+    }
+    most < 0x80
+}
+
+// The bytes from one position up to another, one after the other.
+fn bytes(s: &[u8], owed: Owed, from: usize, to: usize) -> Step
+    requires { ⌜ (from ≤ to) × (to ≤ length (now s)) ⌝ }
+    ensures { λ r. ⌜ completesAfter r (drop to (now (s .entry))) ≡ completes (ranges owed) (drop from (now (s .entry))) ⌝ }
+{
+    let mut state = owed;
+    let mut i = from;
+    while i < to {
+        match next(state, s[i]) {
+            Step::Taken(rest) => state = rest,
+            Step::Refused => return Step::Refused,
+        }
+        i += 1;
+    }
+    Step::Taken(state)
+}
+
+// The 32 bytes from a position on.
+fn block(s: &[u8], owed: Owed, from: usize) -> Step
+    requires { ⌜ from + 32 ≤ length (now s) ⌝ }
+    ensures { λ r. ⌜ completesAfter r (drop (from + 32) (now (s .entry))) ≡ completes (ranges owed) (drop from (now (s .entry))) ⌝ }
+{
+    if owed.tails == 0 {
+        if is_ascii(s, from) {
+            return taken(0, 0x80, 0xBF);
+        }
+    }
+    bytes(s, owed, from, from + 32)
+}
+
 // Whether the bytes are UTF-8 (RFC 3629).
 pub fn is_utf8(s: &[u8]) -> bool
     ensures { λ r. ⌜ r ≡ utf8 (now (s .entry)) ⌝ }
@@ -66,12 +116,15 @@ pub fn is_utf8(s: &[u8]) -> bool
         high: 0xBF,
     };
     let mut i: usize = 0;
-    while i < s.len() {
-        match next(owed, s[i]) {
+    while 32 <= s.len() - i {
+        match block(s, owed, i) {
             Step::Taken(rest) => owed = rest,
             Step::Refused => return false,
         }
-        i += 1;
+        i += 32;
     }
-    owed.tails == 0
+    match bytes(s, owed, i, s.len()) {
+        Step::Taken(rest) => rest.tails == 0,
+        Step::Refused => false,
+    }
 }

@@ -14,20 +14,20 @@ abbrev μ-loop : tie.MeasureT-loop
 loop-holds : tie.Need-loop-holds Inv-loop μ-loop
 loop-holds c = counted-start _ _ _ (c .before .pre)
 
-node-at-requires : tie.Need-node-at-requires Inv-loop μ-loop
-node-at-requires c κs = search needs
-
-element-of-requires : tie.Need-element-of-requires Inv-loop μ-loop
-element-of-requires c κs = search needs
+element-at-requires : tie.Need-element-at-requires Inv-loop μ-loop
+element-at-requires c κs = search needs
 
 with-tree-requires : tie.Need-with-tree-requires Inv-loop μ-loop
-with-tree-requires c κs = counted-few _ _ _ (c .before .before .before .before .loop .inv) (omega arith)
+with-tree-requires c κs = counted-few _ _ _ (c .before .before .before .loop .inv) (omega arith)
+
+rest-of-requires : tie.Need-rest-of-requires Inv-loop μ-loop
+rest-of-requires c κs = search needs
 
 loop-less : tie.Need-loop-less Inv-loop μ-loop
-loop-less c = omega (arith, counted-less _ _ _ (c .before .before .before .before .before .before .loop .inv) (omega arith) (c .before .before .before .node-at .ensures))
+loop-less c = counted-less _ _ _ (c .before .before .before .before .before .loop .inv) (omega arith) (c .rest-of .ensures)
 
 loop-again : tie.Need-loop-again Inv-loop μ-loop
-loop-again c = counted-next _ _ _ (c .before .before .before .before .before .before .loop .inv) (omega arith) (c .before .before .before .node-at .ensures) (c .before .before .element-of .ensures) (c .before .with-tree .ensures)
+loop-again c = counted-next _ _ _ (c .before .before .before .before .before .loop .inv) (omega arith) (c .rest-of .ensures) (c .before .before .element-at .ensures) (c .before .with-tree .ensures)
 
 returns : tie.Need-returns Inv-loop μ-loop
 returns c = counted-done _ _ _ (c .before .before .loop .inv) (c .if1 .left)
@@ -39,9 +39,9 @@ counts-of-spec =
     Inv-loop
     μ-loop
     loop-holds
-    node-at-requires
-    element-of-requires
+    element-at-requires
     with-tree-requires
+    rest-of-requires
     loop-less
     loop-again
     returns)

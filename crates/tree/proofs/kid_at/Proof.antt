@@ -15,8 +15,8 @@ abbrev μ-loop : tie.MeasureT-loop
 loop-holds : tie.Need-loop-holds Inv-loop μ-loop
 loop-holds c = kid-start _ _ _ _ (c .before .pre)
 
-node-at-requires : tie.Need-node-at-requires Inv-loop μ-loop
-node-at-requires c κs = tt
+rest-of-requires : tie.Need-rest-of-requires Inv-loop μ-loop
+rest-of-requires c κs = tt
 
 add-i : tie.Need-add-i Inv-loop μ-loop
 add-i c = search needs
@@ -25,7 +25,7 @@ loop-less : tie.Need-loop-less Inv-loop μ-loop
 loop-less c = omega arith
 
 loop-again : tie.Need-loop-again Inv-loop μ-loop
-loop-again c = kid-on (c .before .before .before .loop .inv) (c .before .before .loop-test .taken) (c .before .node-at .ensures)
+loop-again c = kid-on (c .before .before .loop .inv) (c .before .loop-test .taken) (c .rest-of .ensures)
 
 returns : tie.Need-returns Inv-loop μ-loop
 returns c = kid-found (c .before .loop .inv) (omega (arith, c .loop-test .left))
@@ -33,4 +33,4 @@ returns c = kid-found (c .before .loop .inv) (omega (arith, c .loop-test .left))
 pub kid-at-spec : {M : Type 1} → statement M
 kid-at-spec =
     tie.close
-    (tie.spec Inv-loop μ-loop loop-holds node-at-requires add-i loop-less loop-again returns)
+    (tie.spec Inv-loop μ-loop loop-holds rest-of-requires add-i loop-less loop-again returns)

@@ -1,15 +1,19 @@
 -- `utf8::is_utf8` meets its contract. The loop's invariant: the first i bytes are whole chars and a beginning that owes what `owed` says.
 -- Assumes nothing.
-use Prim.Native.Nat.{_-_}
+use Prim.Native.Nat.{_+_, _-_}
 use mathlib.Core.Path.{refl}
+use denote.Ref.{now}
+use native.Mathlib.Nat.{le-refl}
+use native.Mathlib.Omega.{arith}
 use borrow.Author.Needs.{needs}
 use lib.ListN.{length}
-use Rattle.utf8.proofs.Owing.{Read, read-none, read-more, read-refused, read-all}
+use Rattle.utf8.specs.Utf8.{utf8}
+use Rattle.utf8.proofs.Owing.{Read, read-none, part-more, part-refused, part-all}
 use Rattle.utf8.proofs.is_utf8.Statement.{statement}
 use Rattle.utf8.proofs.is_utf8.Tie as tie
 
 abbrev Inv-loop : tie.InvT-loop
-Inv-loop s owed₀ i₀ owed i = Read s owed i
+Inv-loop s owed₀ i₀ owed i = Read s (utf8 s) owed i
 
 abbrev μ-loop : tie.MeasureT-loop
 μ-loop s owed₀ i₀ owed i = length s - i
@@ -17,11 +21,11 @@ abbrev μ-loop : tie.MeasureT-loop
 loop-holds : tie.Need-loop-holds Inv-loop μ-loop
 loop-holds c = read-none _ _ refl
 
-shared-slice-read-next : tie.Need-shared-slice-read-next Inv-loop μ-loop
-shared-slice-read-next c = search needs
+sub-loop : tie.Need-sub-loop Inv-loop μ-loop
+sub-loop c = omega arith
 
-next-requires : tie.Need-next-requires Inv-loop μ-loop
-next-requires c κs = search needs
+block-requires : tie.Need-block-requires Inv-loop μ-loop
+block-requires c κs = omega arith
 
 enum-known-rest : tie.Need-enum-known-rest Inv-loop μ-loop
 enum-known-rest c = search needs
@@ -30,21 +34,31 @@ enum-told : tie.Need-enum-told Inv-loop μ-loop
 enum-told c = search needs
 
 returns : tie.Need-returns Inv-loop μ-loop
-returns c =
-    read-refused (c .before .before .before .before .before .loop .inv) (c .before .before .before .before .loop-test .taken) (c .before .before .next .ensures) (c .enum-told .given .1)
+returns c = part-refused (c .before .before .before .before .loop .inv) (c .before .before .before .before .loop .i + 32) (c .before .before .block .ensures) (c .enum-told .given .1)
 
 add-i : tie.Need-add-i Inv-loop μ-loop
-add-i c = search needs
+add-i c = omega arith
 
 loop-less : tie.Need-loop-less Inv-loop μ-loop
-loop-less c = search needs
+loop-less c = omega arith
 
 loop-again : tie.Need-loop-again Inv-loop μ-loop
-loop-again c =
-    read-more (c .before .before .before .before .before .before .loop .inv) (c .before .before .before .before .before .loop-test .taken) (c .before .before .before .next .ensures) (c .before .rest .given .1)
+loop-again c = part-more (c .before .before .before .before .before .loop .inv) _ (c .before .before .before .block .ensures) (c .before .rest .given .1) (omega arith)
+
+bytes-requires : tie.Need-bytes-requires Inv-loop μ-loop
+bytes-requires c κs = (omega arith, omega arith)
+
+enum-known-rest-2 : tie.Need-enum-known-rest-2 Inv-loop μ-loop
+enum-known-rest-2 c = search needs
+
+enum-told-2 : tie.Need-enum-told-2 Inv-loop μ-loop
+enum-told-2 c = search needs
 
 returns-2 : tie.Need-returns-2 Inv-loop μ-loop
-returns-2 c = read-all (c .before .before .loop .inv) (c .before .loop-test .left)
+returns-2 c = part-all (c .before .before .before .before .before .before .loop .inv) _ (c .before .before .before .before .bytes .ensures) (c .before .before .rest2 .given .1) (le-refl _)
+
+returns-3 : tie.Need-returns-3 Inv-loop μ-loop
+returns-3 c = part-refused (c .before .before .before .before .loop .inv) (length (now (c .before .before .before .before .before .before .args .s))) (c .before .before .bytes .ensures) (c .enum-told2 .given .1)
 
 pub is-utf8-spec : {M : Type 1} → statement M
 is-utf8-spec =
@@ -53,12 +67,16 @@ is-utf8-spec =
     Inv-loop
     μ-loop
     loop-holds
-    shared-slice-read-next
-    next-requires
+    sub-loop
+    block-requires
     enum-known-rest
     enum-told
     returns
     add-i
     loop-less
     loop-again
-    returns-2)
+    bytes-requires
+    enum-known-rest-2
+    enum-told-2
+    returns-2
+    returns-3)
