@@ -12,6 +12,7 @@ use Rattle.list_slice.specs.Items.{gathered}
 use Rattle.codegen_state.specs.declared.CodeBuilder.{CodeBuilder}
 use Rattle.codegen_state.specs.View.{state, gather}
 use Rattle.codegen_state.specs.Does.{Fine, marked, Written}
+use Rattle.codegen_state.specs.Index.{latest}
 use Rattle.builder.specs.Entries.{put3}
 use Rattle.builder.proofs.Words.{length-put, entry-same, entry-other, getD-put}
 use Rattle.as2_codegen.specs.Begin.{Begun}
@@ -21,7 +22,7 @@ zero-at zero i = refl
 zero-at (suc n) zero = refl
 zero-at (suc n) (suc i) = zero-at n i
 
-zeros-at : (n i : ℕ) → getD (zerosOf n) i 0 ≡ 0
+pub zeros-at : (n i : ℕ) → getD (zerosOf n) i 0 ≡ 0
 unfolding zerosOf
 zeros-at n i = zero-at n i
 
@@ -42,7 +43,7 @@ begun = record {
   base = 4096;
 }
 
-module _ (w : List ℕ) (long : 16384 ≤ length w) (zeros : w ≡ zerosOf (length w)) where
+module _ (w : List ℕ) (long : 20480 ≤ length w) (zeros : w ≡ zerosOf (length w)) where
   abbrev first : List ℕ
   first = put3 w 4095 0x88 0 0
 
@@ -99,7 +100,6 @@ module _ (w : List ℕ) (long : 16384 ≤ length w) (zeros : w ≡ zerosOf (leng
     no-label = λ i p q. word-zero (12288 + i) (omega arith);
     no-end = λ i p q. word-zero (13312 + i) (omega arith);
     no-string = λ i p q. word-zero (14336 + i) (omega arith);
-    no-rest = λ i p. word-zero i (omega arith);
   }
 
   starts : (F : List ℕ) → state F begun first ≡ start limits01
@@ -107,9 +107,10 @@ module _ (w : List ℕ) (long : 16384 ≤ length w) (zeros : w ≡ zerosOf (leng
   starts F = rw pool-entry
 
   pub begins : (F : List ℕ) → Begun F begun first
+  unfolding latest
   begins F = record {
     fine = fine;
-    named = record { finished = λ i h. absurd (omega arith); unfinished = λ i p q. absurd (omega arith); strings = λ i h. absurd (omega arith) };
+    named = record { finished = λ i h. absurd (omega arith); unfinished = λ i p q. absurd (omega arith); strings = λ i h. absurd (omega arith); indexed = record { heads = λ h p. word-zero (16384 + h) (omega arith); links = λ k p. absurd (omega arith) } };
     starts = starts F;
     base = refl;
     unrefused = refl;

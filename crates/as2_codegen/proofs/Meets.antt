@@ -115,8 +115,8 @@ module _ (F : List ℕ) (accepted : checkOf F ≡ 0) where
           let e : loweredWith limits01 F n ≡ lists (finished (state F r w′)) = lowered-is ∙ lists-are h in
           record { answer = rw e; number = rw e; list-length = l; whole-list = rw e k }
 
-      pub lowers-refusal : (r .refused ≡ 0 → ⊥) → Lowers limits01 F n (lowered.Refused (r .refused)) (zerosOf n)
-      lowers-refusal h = refuses F n (r .refused) (lowered-is ∙ refusal-is h)
+      pub lowers-refusal : {v : List ℕ} → v ≡ zerosOf n → (r .refused ≡ 0 → ⊥) → Lowers limits01 F n (lowered.Refused (r .refused)) v
+      lowers-refusal e h = rw e (refuses F n (r .refused) (lowered-is ∙ refusal-is h))
 
 -- the refusals before any statement
 

@@ -3,12 +3,14 @@ ghost use mathlib.Core.Path.{_≡_};
 ghost use mathlib.Core.List.{List};
 ghost use Prim.Native.Nat.{ℕ, _≤_};
 ghost use lib.ListN.{length};
+ghost use Rattle.script_records.specs.Layout.{layoutOf};
 ghost use Rattle.script.specs.Rules.{checkOf, refusalOf};
 ghost use Rattle.lowering.specs.Builder.{limits01};
 ghost use Rattle.lowering.specs.Statement.{no-loop, gen-statements};
 ghost use Rattle.list_slice.specs.Words.{zerosOf};
 ghost use Rattle.codegen_state.specs.Does.{Does};
 ghost use Rattle.tree.specs.Within.{meaningsAt};
+ghost use Rattle.builder.specs.Places.{Copied};
 ghost use Rattle.as2_codegen.specs.Lowering.{Lowers};
 ghost use Rattle.as2_codegen.specs.Begin.{Begun, statementsPart, Generating};
 use builder::entries::put;
@@ -43,7 +45,7 @@ fn number_of(a: Answer) -> u32
 
 // The pool's place is kept, as action 1; `Constants::empty` sets the pool's total to 2.
 fn begin(list: &mut [u32]) -> CodeBuilder
-    requires { ⌜ 16384 ≤ length (now list) ⌝ }
+    requires { ⌜ 20480 ≤ length (now list) ⌝ }
     requires { ⌜ now list ≡ zerosOf (length (now list)) ⌝ }
     ensures { λ r. ⌜ ((F : List ℕ) → Begun F r (now (list .exit))) ⌝ }
 {
@@ -86,10 +88,10 @@ fn with_small(
     p: Part,
     b: CodeBuilder,
     list: &mut [u32],
-    scratch: &mut [usize; 1024],
+    scratch: &mut [usize; 4096],
 ) -> CodeBuilder
     requires { ⌜ Generating (now file) l p b (now list) ⌝ }
-    requires { ⌜ p .n ≤ 1024 ⌝ }
+    requires { ⌜ p .n ≤ 4096 ⌝ }
     ensures { λ r. ⌜ Does (now (file .entry)) (gen-statements no-loop (meaningsAt (now (file .entry)) p)) b (now (list .entry)) tt r (now (list .exit)) ⌝ }
 {
     gen_statements(file, l, p, b, list, scratch, no_loop())
@@ -111,10 +113,10 @@ fn with_large(
 
 fn small(file: &[u8], l: Layout, p: Part, b: CodeBuilder, list: &mut [u32]) -> CodeBuilder
     requires { ⌜ Generating (now file) l p b (now list) ⌝ }
-    requires { ⌜ p .n ≤ 1024 ⌝ }
+    requires { ⌜ p .n ≤ 4096 ⌝ }
     ensures { λ r. ⌜ Does (now (file .entry)) (gen-statements no-loop (meaningsAt (now (file .entry)) p)) b (now (list .entry)) tt r (now (list .exit)) ⌝ }
 {
-    let mut scratch = [0usize; 1024];
+    let mut scratch = [0usize; 4096];
     with_small(file, l, p, b, list, &mut scratch)
 }
 
@@ -136,10 +138,42 @@ fn generate_actions(
     requires { ⌜ Generating (now file) l p b (now list) ⌝ }
     ensures { λ r. ⌜ Does (now (file .entry)) (gen-statements no-loop (meaningsAt (now (file .entry)) p)) b (now (list .entry)) tt r (now (list .exit)) ⌝ }
 {
-    if 1024 < p.n {
+    if 4096 < p.n {
         return large(file, l, p, b, list);
     }
     small(file, l, p, b, list)
+}
+
+// The words of the list slice, without the pool's index behind them.
+fn copy(work: &[u32; 20480], list: &mut [u32])
+    requires { ⌜ 16384 ≤ length (now list) ⌝ }
+    requires { ⌜ now list ≡ zerosOf (length (now list)) ⌝ }
+    ensures { λ r. ⌜ Copied (now (work .entry)) (now (list .exit)) ⌝ }
+{
+    let mut i: usize = 0;
+    while i < 16384 {
+        list[i] = work[i];
+        i += 1;
+    }
+}
+
+// Lowering works with more words than the list slice has. After a refusal the slice stays as it is.
+fn with_words(file: &[u8], l: Layout, p: Part, work: &mut [u32; 20480], list: &mut [u32]) -> Lowered
+    requires { ⌜ checkOf (now file) ≡ 0 ⌝ }
+    requires { ⌜ (l ≡ layoutOf (now file)) × (p ≡ statementsPart l) ⌝ }
+    requires { ⌜ now work ≡ zerosOf 20480 ⌝ }
+    requires { ⌜ 16384 ≤ length (now list) ⌝ }
+    requires { ⌜ now list ≡ zerosOf (length (now list)) ⌝ }
+    ensures { λ r. ⌜ Lowers limits01 (now (file .entry)) (length (now (list .entry))) r (now (list .exit)) ⌝ }
+{
+    let b = begin(work);
+    let done = generate_actions(file, l, p, b, work);
+    if done.refused != 0 {
+        return Lowered::Refused(done.refused);
+    }
+    into_actions(work, done);
+    copy(work, list);
+    Lowered::Lists
 }
 
 // An accepted file, and a slice of zeros.
@@ -151,14 +185,8 @@ fn lower(file: &[u8], list: &mut [u32]) -> Lowered
 {
     let l = layout_of(file);
     let p = statements_of(l);
-    let b = begin(list);
-    let done = generate_actions(file, l, p, b, list);
-    if done.refused != 0 {
-        clear_words(list);
-        return Lowered::Refused(done.refused);
-    }
-    into_actions(list, done);
-    Lowered::Lists
+    let mut work = [0u32; 20480];
+    with_words(file, l, p, &mut work, list)
 }
 
 // A file of any content: its lists, or the one refusal among 13, 4, 1, 2, 3, 4, 5, 6, 7, 8, after which the slice has only zeros.

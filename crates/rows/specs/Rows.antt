@@ -14,7 +14,7 @@ use Rattle.lowering.specs.Meaning as meaning
 use Rattle.lowering.specs.Statement.{SwitchElement, branch, expr, discarded, has-case, gen-conditionals, gen-call, gen-new}
 use Rattle.builder.specs.Labels.{labels-of}
 use Rattle.rows.specs.declared.Each.{Each}
-use Rattle.rows.specs.declared.Each.the-variants.{Expr, Discarded, Field, Hoisted, Unhoisted, Conditional, Element}
+use Rattle.rows.specs.declared.Each.the-variants.{Expr, Discarded, Field, Statement, Hoisted, Unhoisted, Conditional, Element}
 use Rattle.rows.specs.declared.Target.{Target}
 use Rattle.rows.specs.declared.Target.the-variants.{To, Nowhere}
 use Rattle.rows.specs.declared.Loop as code
@@ -54,6 +54,7 @@ abbrev pub oneOf : Each → Loop → (first default seen cases : ℕ) → Meanin
 oneOf Expr lp f d s c m kids = expr m
 oneOf Discarded lp f d s c m kids = discarded m
 oneOf Field lp f d s c m kids = push-string (param (m .rec) .name) >> expr m
+oneOf Statement lp f d s c m kids = m .gen-statement lp
 oneOf Hoisted lp f d s c m kids = when (hoisted (m .rec) kids) (m .gen-statement lp)
 oneOf Unhoisted lp f d s c m kids = when (not (hoisted (m .rec) kids)) (m .gen-statement lp)
 oneOf Conditional lp f d s c m kids = conditional f s c m (element (m .rec))

@@ -5,12 +5,13 @@ ghost use Rattle.lowering.specs.Statement.{no-loop};
 ghost use Rattle.rows.specs.Rows.{loopOf};
 use pcode::Label;
 
-// Expressions for their values or for their effects; an object's fields; statements that are hoisted, and the others; the tests of a switch, and its
+// Expressions for their values or for their effects; an object's fields; statements, those that are hoisted, and the others; the tests of a switch, and its
 // elements.
 pub enum Each {
     Expr,
     Discarded,
     Field,
+    Statement,
     Hoisted,
     Unhoisted,
     Conditional,

@@ -33,9 +33,9 @@ use Rattle.tree.specs.Within.{Within, IsNode, IsKid, IsList, meaningsAt, kidAt,
 use Rattle.tree.proofs.Nodes.{is-node, trees-more, trees-none}
 use Rattle.tree.proofs.Meanings.{kid-zero}
 use Rattle.builder.specs.Labels.{elements-from}
-use Rattle.rows.specs.declared.Each.the-variants.{Expr, Discarded, Field, Hoisted, Unhoisted, Conditional, Element}
+use Rattle.rows.specs.declared.Each.the-variants.{Expr, Discarded, Field, Statement, Hoisted, Unhoisted, Conditional, Element}
 use Rattle.rows.specs.Rows.{eachOf, any-hoisted, select, callOf}
-use Rattle.statement.proofs.Rows.{same-does, exprs-each, discarded-each, fields-each, hoisted-each, hoisted-none, others-each, has-case-is, tests-each, elements-each}
+use Rattle.statement.proofs.Rows.{same-does, exprs-each, discarded-each, fields-each, hoisted-each, hoisted-none, statements-each, others-each, has-case-is, tests-each, elements-each}
 use Rattle.statement.proofs.Laws.{Testing, Switching, rec-is, none-at, values-law, drag-law, condition-law, present-law, has-tests, has-no-tests}
 
 both-false : (d q : Bool) → (not d && not q) ≡ true → (d ≡ false) × (q ≡ false)
@@ -58,9 +58,13 @@ module _ {F : List ℕ} (l : Layout) (p : Part) {b : CodeBuilder} {w : List ℕ}
       (lp : Loop) →
       {h : Bool} → h ≡ any-hoisted (meaningsAt F p) → h ≡ false →
       Fine b w →
-      Does F (eachOf Unhoisted lp 0 0 (meaningsAt F p)) b w tt b1 w1 →
+      Does F (eachOf Statement lp 0 0 (meaningsAt F p)) b w tt b1 w1 →
       Does F (gen-statements lp (meaningsAt F p)) b w tt b1 w1
-  unhoisted-arm lp e h f d = statements-arm lp (same-does (eachOf Hoisted lp 0 0 (meaningsAt F p)) done (hoisted-none lp 0 0 (meaningsAt F p) (sym e ∙ h)) (idle f)) d
+  unhoisted-arm lp e h f d =
+      let none′ = sym e ∙ h in
+      let first = same-does (eachOf Hoisted lp 0 0 (meaningsAt F p)) done (hoisted-none lp 0 0 (meaningsAt F p) none′) (idle f) in
+      let others = same-does (eachOf Unhoisted lp 0 0 (meaningsAt F p)) (eachOf Statement lp 0 0 (meaningsAt F p)) (statements-each lp 0 0 (meaningsAt F p) none′) d in
+      statements-arm lp first others
 
   pub field-arm : {b1 b2 : CodeBuilder} {w1 w2 : List ℕ} →
       {t : Node} → IsNode F l p t →

@@ -302,9 +302,9 @@ unfolding meanings
 reversed-more F l p i h = rw (trees-more F l p i h)
 
 module _ {F : List ℕ} {l : Layout} {w0 x0 : List ℕ} {p0 : Part} {b0 : CodeBuilder} {w x : List ℕ} {left : Part} {b : CodeBuilder} (i : ArgsInv F l w0 x0 p0 b0 w x left b) where
-  pub args-again : (left .n ≡ 0 → ⊥) → {t : Node} → t ≡ nodeOf F l left → {b1 : CodeBuilder} {w1 x1 : List ℕ} → Does F (kidAt F left 0 .gen-expr false) b w tt b1 w1 → length w1 ≡ length w → length x1 ≡ length x →
+  args-again-at : (left .n ≡ 0 → ⊥) → {t : Node} → t ≡ nodeOf F l left → {b1 : CodeBuilder} {w1 x1 : List ℕ} → Does F (kidAt F left 0 .gen-expr false) b w tt b1 w1 → length w1 ≡ length w → length x1 ≡ length x →
       ArgsInv F l w0 x0 p0 b0 w1 x1 (t .before) b1
-  args-again z {t} e {b1} {w1} o q r =
+  args-again-at z {t} e {b1} {w1} o q r =
       let g = is-node F l left (i .within) e in
       record {
         same = rw (o .same, ← after-then (held F (tt {0}) b w) (expr (kidAt F left 0)) (exprs-reversed (meaningsAt F (t .before))), ← reversed-more F l left g (omega arith)) (i .same);
@@ -317,8 +317,12 @@ module _ {F : List ℕ} {l : Layout} {w0 x0 : List ℕ} {p0 : Part} {b0 : CodeBu
         scratch = r ∙ i .scratch;
       }
 
-  pub args-less : (left .n ≡ 0 → ⊥) → {t : Node} → t ≡ nodeOf F l left → t .before .n < left .n
-  args-less z e = omega (arith, is-node F l left (i .within) e .apart)
+  pub args-again : (left .n ≡ 0 → ⊥) → {before : Part} → before ≡ nodeOf F l left .before → {b1 : CodeBuilder} {w1 x1 : List ℕ} → Does F (kidAt F left 0 .gen-expr false) b w tt b1 w1 → length w1 ≡ length w → length x1 ≡ length x →
+      ArgsInv F l w0 x0 p0 b0 w1 x1 before b1
+  args-again z e o q r = rw e (args-again-at z {t = nodeOf F l left} refl o q r)
+
+  pub args-less : (left .n ≡ 0 → ⊥) → {before : Part} → before ≡ nodeOf F l left .before → before .n < left .n
+  args-less z e = rw e (omega (arith, is-node F l left (i .within) refl .apart))
 
   pub args-done : left .n ≡ 0 → (n : ℕ) → n ≡ width (trees F p0) → {r : CodeBuilder} {w′ : List ℕ} → Does F (push (Integer n)) b w tt r w′ → Does F (gen-arguments (meaningsAt F p0)) b0 w0 tt r w′
   args-done z n e {r} {w′} o = record {

@@ -22,7 +22,7 @@ use Rattle.codegen_state.proofs.Steps.{after-then, after-done}
 use Rattle.tree.specs.Trees.{labelled, cases, fromDefault, fromDefault-at, isLabelled, isCase}
 use Rattle.builder.specs.Labels.{one-label, labels-of, with-number, elements-from}
 use Rattle.rows.specs.declared.Each.{Each}
-use Rattle.rows.specs.declared.Each.the-variants.{Expr, Discarded, Field, Hoisted, Unhoisted, Conditional, Element}
+use Rattle.rows.specs.declared.Each.the-variants.{Expr, Discarded, Field, Statement, Hoisted, Unhoisted, Conditional, Element}
 use Rattle.rows.specs.Rows.{one-case, cases-of, conditional, switch-element, oneOf, eachOf, any-hoisted}
 
 -- two steps that do the same from everywhere
@@ -79,6 +79,18 @@ module _ (lp : Loop) (f d : ℕ) where
   hoisted-none (more ms m kids) e v =
       let h = neither (hoisted (m .rec) kids) (any-hoisted ms) e in
       rw (after-then v (eachOf Hoisted lp f d ms) (when (hoisted (m .rec) kids) (m .gen-statement lp)), h .0) (after-done (after v (eachOf Hoisted lp f d ms)) ∙ hoisted-none ms (h .1) v)
+
+  pub statements-each : (ms : Forest Meaning) → any-hoisted ms ≡ false → Same (eachOf Unhoisted lp f d ms) (eachOf Statement lp f d ms)
+  unfolding eachOf any-hoisted
+  statements-each Forest.none e v = refl
+  statements-each (more ms m kids) e v =
+      let h = neither (hoisted (m .rec) kids) (any-hoisted ms) e in
+      rw (
+        after-then v (eachOf Unhoisted lp f d ms) (when (not (hoisted (m .rec) kids)) (m .gen-statement lp)),
+        after-then v (eachOf Statement lp f d ms) (m .gen-statement lp),
+        h .0,
+        statements-each ms (h .1) v,
+      )
 
 -- a switch's elements
 

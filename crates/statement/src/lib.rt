@@ -114,7 +114,7 @@ pub fn gen_statements(
     ensures { λ r. ⌜ Does (now (file .entry)) (statement.gen-statements (loopOf lp) (meaningsAt (now (file .entry)) p)) b (now (list .entry)) tt r (now (list .exit)) ⌝ }
 {
     if !has_hoisted(file, l, p) {
-        return each(file, l, p, b, list, scratch, Each::Unhoisted, lp, 0, 0);
+        return each(file, l, p, b, list, scratch, Each::Statement, lp, 0, 0);
     }
     let b1 = each(file, l, p, b, list, scratch, Each::Hoisted, lp, 0, 0);
     each(file, l, p, b1, list, scratch, Each::Unhoisted, lp, 0, 0)
@@ -216,6 +216,7 @@ fn one(
             let b1 = push_string(file, l, list, b, key);
             gen_expr(file, l, p, b1, list, scratch, false)
         }
+        Each::Statement => gen_statement(file, l, p, b, list, scratch, lp),
         Each::Hoisted => {
             if is_hoisted(file, l, p) {
                 return gen_statement(file, l, p, b, list, scratch, lp);
@@ -979,8 +980,7 @@ fn args(
     let mut cur = b;
     while left.n != 0 {
         cur = gen_expr(file, l, left, cur, list, scratch, false);
-        let t = node_at(file, l, left);
-        let before = t.before;
+        let before = rest_of(file, l, left);
         left = before;
     }
     push_count(list, cur, n)

@@ -468,7 +468,7 @@ abbrev args-μ-loop : args-lts.MeasureT-loop
 args-μ-loop file l list₀ scratch₀ n left₀ cur₀ list scratch left cur = left .n
 
 abbrev args-calls : ℕ → args-lts.Claims
-args-calls t = (gen-expr-below t, gen-expr.Post, node-at-reads.Asked, node-at-reads.Learnt, push-count-reads.Asked, push-count-reads.Learnt)
+args-calls t = (gen-expr-below t, gen-expr.Post, rest-of-reads.Asked, rest-of-reads.Learnt, push-count-reads.Asked, push-count-reads.Learnt)
 
 args-loop-holds : (t : ℕ) → args-lts.Need-loop-holds (args-calls t) (args-at t) args.Post args-Inv-loop args-μ-loop
 args-loop-holds t c = args-holds _ _ _ _ _ _ ((c .before .before .before .pre .1 .0) .within) ((c .before .before .before .pre .1 .0) .fine) ((c .before .before .before .pre .1 .0) .fits)
@@ -476,14 +476,14 @@ args-loop-holds t c = args-holds _ _ _ _ _ _ ((c .before .before .before .pre .1
 args-gen-expr-requires : (t : ℕ) → args-lts.Need-gen-expr-requires (args-calls t) (args-at t) args.Post args-Inv-loop args-μ-loop
 args-gen-expr-requires t c κs = (omega (arith, c .before .before .before .before .before .before .before .before .pre .0, c .before .before .before .before .loop .inv .fewer), record { within = c .before .before .before .before .loop .inv .within; fits = omega (arith, c .before .before .before .before .loop .inv .fewer, c .before .before .before .before .loop .inv .room, c .before .before .before .before .loop .inv .scratch); fine = (c .before .before .before .before .loop .inv .fine); named = (c .before .before .before .before .loop .inv .named ((c .before .before .before .before .before .before .before .before .pre .1 .0) .named)) })
 
-args-node-at-requires : (t : ℕ) → args-lts.Need-node-at-requires (args-calls t) (args-at t) args.Post args-Inv-loop args-μ-loop
-args-node-at-requires t c κs = tt
+args-rest-of-requires : (t : ℕ) → args-lts.Need-rest-of-requires (args-calls t) (args-at t) args.Post args-Inv-loop args-μ-loop
+args-rest-of-requires t c κs = tt
 
 args-loop-less : (t : ℕ) → args-lts.Need-loop-less (args-calls t) (args-at t) args.Post args-Inv-loop args-μ-loop
-args-loop-less t c = args-less (c .before .before .before .before .before .before .before .before .before .before .before .loop .inv) (c .before .before .before .before .before .before .before .before .before .if1 .taken) (c .before .node-at .ensures)
+args-loop-less t c = args-less (c .before .before .before .before .before .before .before .before .before .before .loop .inv) (c .before .before .before .before .before .before .before .before .if1 .taken) (c .rest-of .ensures)
 
 args-loop-again : (t : ℕ) → args-lts.Need-loop-again (args-calls t) (args-at t) args.Post args-Inv-loop args-μ-loop
-args-loop-again t c = args-again (c .before .before .before .before .before .before .before .before .before .before .before .loop .inv) (c .before .before .before .before .before .before .before .before .before .if1 .taken) (c .before .node-at .ensures) (c .before .before .before .before .before .before .gen-expr .ensures) (c .before .before .before .before .before .before .gen-expr .kept .1 .1 .1 .1 .0) (c .before .before .before .before .before .before .gen-expr .kept .1 .1 .1 .1 .1 .0)
+args-loop-again t c = args-again (c .before .before .before .before .before .before .before .before .before .before .loop .inv) (c .before .before .before .before .before .before .before .before .if1 .taken) (c .rest-of .ensures) (c .before .before .before .before .before .gen-expr .ensures) (c .before .before .before .before .before .gen-expr .kept .1 .1 .1 .1 .0) (c .before .before .before .before .before .gen-expr .kept .1 .1 .1 .1 .1 .0)
 
 args-push-count-requires : (t : ℕ) → args-lts.Need-push-count-requires (args-calls t) (args-at t) args.Post args-Inv-loop args-μ-loop
 args-push-count-requires t c κs = (c .before .before .before .loop .inv .fine, rw (c .before .before .before .before .before .before .before .pre .1 .1) (omega (arith, width-less (now (c .before .before .before .before .before .before .before .args .file)) (c .before .before .before .before .before .before .before .args .p), (c .before .before .before .before .before .before .before .pre .1 .0) .within .inside, (c .before .before .before .before .before .before .before .pre .1 .0) .within .known, (c .before .before .before .before .before .before .before .pre .1 .0) .within .sound .few)))
@@ -2371,7 +2371,7 @@ goto-returns-4 : (t : ℕ) → goto-lts.Need-returns-4 (goto-calls t) (goto-at t
 goto-returns-4 t c = rw (literal-of (is-node (now (c .before .before .before .before .before .before .before .before .before .before .before .before .before .before .before .before .before .before .args .file)) (c .before .before .before .before .before .before .before .before .before .before .before .before .before .before .before .before .before .before .args .l) (c .before .before .before .before .before .before .before .before .before .before .before .before .before .before .before .before .before .before .args .p) ((c .before .before .before .before .before .before .before .before .before .before .before .before .before .before .before .before .before .before .pre .1) .within) (c .before .before .before .before .before .before .before .before .before .before .before .before .before .before .node-at .ensures)), ← literal-is (now (c .before .before .before .before .before .before .before .before .before .before .before .before .before .before .before .before .before .before .args .file)) (c .before .before .before .before .before .before .before .before .before .before .before .before .before .before .node-at .result .root), ← c .before .before .before .before .before .before .before .before .before .before .before .before .before .literal-of .ensures, (c .before .before .before .before .before .before .before .before .before .before .before .enum-told .given .1)) (goto-arm (c .before .before .before .before .before .before .before .before .before .before .before .before .before .before .before .before .before .before .args .l) (c .before .before .before .before .before .before .before .before .before .before .before .before .before .before .before .before .before .before .args .p) (c .before .before .before .before .before .before .before .before .before .before .before .before .before .before .before .before .before .before .args .play) (c .before .before .before .before .before .before .before .before .gen-expr2 .ensures) (c .before .before .goto-frame22 .ensures (now (c .before .before .before .before .before .before .before .before .before .before .before .before .before .before .before .before .before .before .args .file))))
 
 abbrev one-calls : ℕ → one-lts.Claims
-one-calls t = (gen-expr-below t, gen-expr.Post, truncate-stack-reads.Asked, truncate-stack-reads.Learnt, node-at-reads.Asked, node-at-reads.Learnt, name-of-reads.Asked, name-of-reads.Learnt, push-string-reads.Asked, push-string-reads.Learnt, is-hoisted-reads.Asked, is-hoisted-reads.Learnt, gen-statement-below t, gen-statement.Post, element-of-reads.Asked, element-of-reads.Learnt, push-if-reads.Asked, push-if-reads.Learnt, action-reads.Asked, action-reads.Learnt, branch-reads.Asked, branch-reads.Learnt, mark-label-reads.Asked, mark-label-reads.Learnt, mark-default-reads.Asked, mark-default-reads.Learnt)
+one-calls t = (gen-expr-below t, gen-expr.Post, truncate-stack-reads.Asked, truncate-stack-reads.Learnt, node-at-reads.Asked, node-at-reads.Learnt, name-of-reads.Asked, name-of-reads.Learnt, push-string-reads.Asked, push-string-reads.Learnt, gen-statement-below t, gen-statement.Post, is-hoisted-reads.Asked, is-hoisted-reads.Learnt, element-of-reads.Asked, element-of-reads.Learnt, push-if-reads.Asked, push-if-reads.Learnt, action-reads.Asked, action-reads.Learnt, branch-reads.Asked, branch-reads.Learnt, mark-label-reads.Asked, mark-label-reads.Learnt, mark-default-reads.Asked, mark-default-reads.Learnt)
 
 one-enum-told : (t : ℕ) → one-lts.Need-enum-told (one-calls t) (one-at t) one.Post
 one-enum-told t c = search needs
@@ -2406,35 +2406,41 @@ one-gen-expr-requires-3 t c κs = (omega (arith, c .before .before .before .befo
 one-enum-told-4 : (t : ℕ) → one-lts.Need-enum-told-4 (one-calls t) (one-at t) one.Post
 one-enum-told-4 t c = search needs
 
-one-is-hoisted-requires : (t : ℕ) → one-lts.Need-is-hoisted-requires (one-calls t) (one-at t) one.Post
-one-is-hoisted-requires t c κs = ((c .before .before .before .before .before .pre .1 .0) .within)
-
 one-gen-statement-requires : (t : ℕ) → one-lts.Need-gen-statement-requires (one-calls t) (one-at t) one.Post
-one-gen-statement-requires t c κs = (omega (arith, c .before .before .before .before .before .before .before .before .before .pre .0, (c .before .before .before .before .before .before .before .before .before .pre .1 .0) .fits), record { within = ((c .before .before .before .before .before .before .before .before .before .pre .1 .0) .within); fits = omega (arith, c .before .before .before .before .before .before .before .before .before .pre .0, (c .before .before .before .before .before .before .before .before .before .pre .1 .0) .fits); fine = ((c .before .before .before .before .before .before .before .before .before .pre .1 .0) .fine); named = ((c .before .before .before .before .before .before .before .before .before .pre .1 .0) .named) })
-
-one-same-length : (t : ℕ) → one-lts.Need-same-length (one-calls t) (one-at t) one.Post
-one-same-length t c = c .before .before .before .before .gen-statement .kept .1 .1 .1 .1 .0
-
-one-same-length-2 : (t : ℕ) → one-lts.Need-same-length-2 (one-calls t) (one-at t) one.Post
-one-same-length-2 t c = c .before .before .before .before .gen-statement .kept .1 .1 .1 .1 .1 .0
-
-one-returns : (t : ℕ) → one-lts.Need-returns (one-calls t) (one-at t) one.Post
-one-returns t c = rw ((c .before .before .before .before .before .before .before .before .before .enum-told4 .given .1), ← c .before .before .before .before .before .before .before .before .is-hoisted .ensures, c .before .before .before .before .before .before .before .if1 .taken) (c .before .before .before .before .gen-statement .ensures)
+one-gen-statement-requires t c κs = (omega (arith, c .before .before .before .before .before .before .before .pre .0, (c .before .before .before .before .before .before .before .pre .1 .0) .fits), record { within = ((c .before .before .before .before .before .before .before .pre .1 .0) .within); fits = omega (arith, c .before .before .before .before .before .before .before .pre .0, (c .before .before .before .before .before .before .before .pre .1 .0) .fits); fine = ((c .before .before .before .before .before .before .before .pre .1 .0) .fine); named = ((c .before .before .before .before .before .before .before .pre .1 .0) .named) })
 
 one-enum-told-5 : (t : ℕ) → one-lts.Need-enum-told-5 (one-calls t) (one-at t) one.Post
 one-enum-told-5 t c = search needs
+
+one-is-hoisted-requires : (t : ℕ) → one-lts.Need-is-hoisted-requires (one-calls t) (one-at t) one.Post
+one-is-hoisted-requires t c κs = ((c .before .before .before .before .before .pre .1 .0) .within)
+
+one-gen-statement-requires-2 : (t : ℕ) → one-lts.Need-gen-statement-requires-2 (one-calls t) (one-at t) one.Post
+one-gen-statement-requires-2 t c κs = (omega (arith, c .before .before .before .before .before .before .before .before .before .pre .0, (c .before .before .before .before .before .before .before .before .before .pre .1 .0) .fits), record { within = ((c .before .before .before .before .before .before .before .before .before .pre .1 .0) .within); fits = omega (arith, c .before .before .before .before .before .before .before .before .before .pre .0, (c .before .before .before .before .before .before .before .before .before .pre .1 .0) .fits); fine = ((c .before .before .before .before .before .before .before .before .before .pre .1 .0) .fine); named = ((c .before .before .before .before .before .before .before .before .before .pre .1 .0) .named) })
+
+one-same-length : (t : ℕ) → one-lts.Need-same-length (one-calls t) (one-at t) one.Post
+one-same-length t c = c .before .before .before .before .gen-statement2 .kept .1 .1 .1 .1 .0
+
+one-same-length-2 : (t : ℕ) → one-lts.Need-same-length-2 (one-calls t) (one-at t) one.Post
+one-same-length-2 t c = c .before .before .before .before .gen-statement2 .kept .1 .1 .1 .1 .1 .0
+
+one-returns : (t : ℕ) → one-lts.Need-returns (one-calls t) (one-at t) one.Post
+one-returns t c = rw ((c .before .before .before .before .before .before .before .before .before .enum-told5 .given .1), ← c .before .before .before .before .before .before .before .before .is-hoisted .ensures, c .before .before .before .before .before .before .before .if1 .taken) (c .before .before .before .before .gen-statement2 .ensures)
+
+one-enum-told-6 : (t : ℕ) → one-lts.Need-enum-told-6 (one-calls t) (one-at t) one.Post
+one-enum-told-6 t c = search needs
 
 one-is-hoisted-requires-2 : (t : ℕ) → one-lts.Need-is-hoisted-requires-2 (one-calls t) (one-at t) one.Post
 one-is-hoisted-requires-2 t c κs = ((c .before .before .before .before .before .pre .1 .0) .within)
 
 one-returns-2 : (t : ℕ) → one-lts.Need-returns-2 (one-calls t) (one-at t) one.Post
-one-returns-2 t c = rw ((c .before .before .enum-told5 .given .1), ← c .before .is-hoisted2 .ensures, c .if2 .taken) (idle ((c .before .before .before .before .before .before .before .pre .1 .0) .fine))
+one-returns-2 t c = rw ((c .before .before .enum-told6 .given .1), ← c .before .is-hoisted2 .ensures, c .if2 .taken) (idle ((c .before .before .before .before .before .before .before .pre .1 .0) .fine))
 
-one-gen-statement-requires-2 : (t : ℕ) → one-lts.Need-gen-statement-requires-2 (one-calls t) (one-at t) one.Post
-one-gen-statement-requires-2 t c κs = (omega (arith, c .before .before .before .before .before .before .before .before .before .pre .0, (c .before .before .before .before .before .before .before .before .before .pre .1 .0) .fits), record { within = ((c .before .before .before .before .before .before .before .before .before .pre .1 .0) .within); fits = omega (arith, c .before .before .before .before .before .before .before .before .before .pre .0, (c .before .before .before .before .before .before .before .before .before .pre .1 .0) .fits); fine = ((c .before .before .before .before .before .before .before .before .before .pre .1 .0) .fine); named = ((c .before .before .before .before .before .before .before .before .before .pre .1 .0) .named) })
+one-gen-statement-requires-3 : (t : ℕ) → one-lts.Need-gen-statement-requires-3 (one-calls t) (one-at t) one.Post
+one-gen-statement-requires-3 t c κs = (omega (arith, c .before .before .before .before .before .before .before .before .before .pre .0, (c .before .before .before .before .before .before .before .before .before .pre .1 .0) .fits), record { within = ((c .before .before .before .before .before .before .before .before .before .pre .1 .0) .within); fits = omega (arith, c .before .before .before .before .before .before .before .before .before .pre .0, (c .before .before .before .before .before .before .before .before .before .pre .1 .0) .fits); fine = ((c .before .before .before .before .before .before .before .before .before .pre .1 .0) .fine); named = ((c .before .before .before .before .before .before .before .before .before .pre .1 .0) .named) })
 
-one-enum-told-6 : (t : ℕ) → one-lts.Need-enum-told-6 (one-calls t) (one-at t) one.Post
-one-enum-told-6 t c = search needs
+one-enum-told-7 : (t : ℕ) → one-lts.Need-enum-told-7 (one-calls t) (one-at t) one.Post
+one-enum-told-7 t c = search needs
 
 one-node-at-requires-2 : (t : ℕ) → one-lts.Need-node-at-requires-2 (one-calls t) (one-at t) one.Post
 one-node-at-requires-2 t c κs = tt
@@ -2442,8 +2448,8 @@ one-node-at-requires-2 t c κs = tt
 one-element-of-requires : (t : ℕ) → one-lts.Need-element-of-requires (one-calls t) (one-at t) one.Post
 one-element-of-requires t c κs = tt
 
-one-enum-told-7 : (t : ℕ) → one-lts.Need-enum-told-7 (one-calls t) (one-at t) one.Post
-one-enum-told-7 t c = search needs
+one-enum-told-8 : (t : ℕ) → one-lts.Need-enum-told-8 (one-calls t) (one-at t) one.Post
+one-enum-told-8 t c = search needs
 
 one-push-if-requires : (t : ℕ) → one-lts.Need-push-if-requires (one-calls t) (one-at t) one.Post
 one-push-if-requires t c κs = ((c .before .before .before .before .before .before .before .before .before .before .pre .1 .0) .fine)
@@ -2454,14 +2460,11 @@ one-gen-expr-requires-4 t c κs = (omega (arith, c .before .before .before .befo
 one-action-requires : (t : ℕ) → one-lts.Need-action-requires (one-calls t) (one-at t) one.Post
 one-action-requires t c κs = ((c .before .before .before .before .before .gen-expr4 .ensures) .fine)
 
-one-add-t66 : (t : ℕ) → one-lts.Need-add-t66 (one-calls t) (one-at t) one.Post
-one-add-t66 t c = omega (arith, c .before .before .before .before .before .before .before .before .before .before .before .before .before .before .before .before .before .before .before .before .before .before .before .before .before .pre .1 .1)
+one-add-t70 : (t : ℕ) → one-lts.Need-add-t70 (one-calls t) (one-at t) one.Post
+one-add-t70 t c = omega (arith, c .before .before .before .before .before .before .before .before .before .before .before .before .before .before .before .before .before .before .before .before .before .before .before .before .before .pre .1 .1)
 
 one-branch-requires : (t : ℕ) → one-lts.Need-branch-requires (one-calls t) (one-at t) one.Post
 one-branch-requires t c κs = ((c .before .before .before .action .ensures (now (c .before .before .before .before .before .before .before .before .before .before .before .before .before .before .before .before .before .before .before .before .before .before .before .before .before .args .file))) .fine)
-
-one-enum-told-8 : (t : ℕ) → one-lts.Need-enum-told-8 (one-calls t) (one-at t) one.Post
-one-enum-told-8 t c = search needs
 
 one-enum-told-9 : (t : ℕ) → one-lts.Need-enum-told-9 (one-calls t) (one-at t) one.Post
 one-enum-told-9 t c = search needs
@@ -2469,35 +2472,38 @@ one-enum-told-9 t c = search needs
 one-enum-told-10 : (t : ℕ) → one-lts.Need-enum-told-10 (one-calls t) (one-at t) one.Post
 one-enum-told-10 t c = search needs
 
+one-enum-told-11 : (t : ℕ) → one-lts.Need-enum-told-11 (one-calls t) (one-at t) one.Post
+one-enum-told-11 t c = search needs
+
 one-node-at-requires-3 : (t : ℕ) → one-lts.Need-node-at-requires-3 (one-calls t) (one-at t) one.Post
 one-node-at-requires-3 t c κs = tt
 
 one-element-of-requires-2 : (t : ℕ) → one-lts.Need-element-of-requires-2 (one-calls t) (one-at t) one.Post
 one-element-of-requires-2 t c κs = tt
 
-one-enum-told-11 : (t : ℕ) → one-lts.Need-enum-told-11 (one-calls t) (one-at t) one.Post
-one-enum-told-11 t c = search needs
+one-enum-told-12 : (t : ℕ) → one-lts.Need-enum-told-12 (one-calls t) (one-at t) one.Post
+one-enum-told-12 t c = search needs
 
-one-add-t71 : (t : ℕ) → one-lts.Need-add-t71 (one-calls t) (one-at t) one.Post
-one-add-t71 t c = omega (arith, c .before .before .before .before .before .before .before .before .before .before .pre .1 .1)
+one-add-t75 : (t : ℕ) → one-lts.Need-add-t75 (one-calls t) (one-at t) one.Post
+one-add-t75 t c = omega (arith, c .before .before .before .before .before .before .before .before .before .before .pre .1 .1)
 
 one-mark-label-requires : (t : ℕ) → one-lts.Need-mark-label-requires (one-calls t) (one-at t) one.Post
 one-mark-label-requires t c κs = ((c .before .before .before .before .before .before .before .before .before .before .pre .1 .0) .fine)
 
-one-enum-told-12 : (t : ℕ) → one-lts.Need-enum-told-12 (one-calls t) (one-at t) one.Post
-one-enum-told-12 t c = search needs
+one-enum-told-13 : (t : ℕ) → one-lts.Need-enum-told-13 (one-calls t) (one-at t) one.Post
+one-enum-told-13 t c = search needs
 
 one-mark-default-requires : (t : ℕ) → one-lts.Need-mark-default-requires (one-calls t) (one-at t) one.Post
 one-mark-default-requires t c κs = ((c .before .before .before .before .before .before .before .before .before .before .pre .1 .0) .fine)
 
-one-enum-told-13 : (t : ℕ) → one-lts.Need-enum-told-13 (one-calls t) (one-at t) one.Post
-one-enum-told-13 t c = search needs
+one-enum-told-14 : (t : ℕ) → one-lts.Need-enum-told-14 (one-calls t) (one-at t) one.Post
+one-enum-told-14 t c = search needs
 
 one-returns-3 : (t : ℕ) → one-lts.Need-returns-3 (one-calls t) (one-at t) one.Post
-one-returns-3 t c = rw ((c .before .before .before .before .before .enum-told10 .given .1), element-at (is-node (now (c .before .before .before .before .before .before .before .before .before .before .args .file)) (c .before .before .before .before .before .before .before .before .before .before .args .l) (c .before .before .before .before .before .before .before .before .before .before .args .p) ((c .before .before .before .before .before .before .before .before .before .before .pre .1 .0) .within) (c .before .before .before .before .node-at3 .ensures)) (c .before .before .before .element-of2 .ensures), (c .before .enum-told13 .given .1), c .if3 .taken) (idle ((c .before .before .before .before .before .before .before .before .before .before .pre .1 .0) .fine))
+one-returns-3 t c = rw ((c .before .before .before .before .before .enum-told11 .given .1), element-at (is-node (now (c .before .before .before .before .before .before .before .before .before .before .args .file)) (c .before .before .before .before .before .before .before .before .before .before .args .l) (c .before .before .before .before .before .before .before .before .before .before .args .p) ((c .before .before .before .before .before .before .before .before .before .before .pre .1 .0) .within) (c .before .before .before .before .node-at3 .ensures)) (c .before .before .before .element-of2 .ensures), (c .before .enum-told14 .given .1), c .if3 .taken) (idle ((c .before .before .before .before .before .before .before .before .before .before .pre .1 .0) .fine))
 
-one-gen-statement-requires-3 : (t : ℕ) → one-lts.Need-gen-statement-requires-3 (one-calls t) (one-at t) one.Post
-one-gen-statement-requires-3 t c κs = (omega (arith, c .before .before .before .before .before .before .before .before .before .before .before .before .pre .0, (c .before .before .before .before .before .before .before .before .before .before .before .before .pre .1 .0) .fits), record { within = ((c .before .before .before .before .before .before .before .before .before .before .before .before .pre .1 .0) .within); fits = omega (arith, c .before .before .before .before .before .before .before .before .before .before .before .before .pre .0, (c .before .before .before .before .before .before .before .before .before .before .before .before .pre .1 .0) .fits); fine = ((c .before .before .before .before .before .before .before .before .before .before .before .before .pre .1 .0) .fine); named = ((c .before .before .before .before .before .before .before .before .before .before .before .before .pre .1 .0) .named) })
+one-gen-statement-requires-4 : (t : ℕ) → one-lts.Need-gen-statement-requires-4 (one-calls t) (one-at t) one.Post
+one-gen-statement-requires-4 t c κs = (omega (arith, c .before .before .before .before .before .before .before .before .before .before .before .before .pre .0, (c .before .before .before .before .before .before .before .before .before .before .before .before .pre .1 .0) .fits), record { within = ((c .before .before .before .before .before .before .before .before .before .before .before .before .pre .1 .0) .within); fits = omega (arith, c .before .before .before .before .before .before .before .before .before .before .before .before .pre .0, (c .before .before .before .before .before .before .before .before .before .before .before .before .pre .1 .0) .fits); fine = ((c .before .before .before .before .before .before .before .before .before .before .before .before .pre .1 .0) .fine); named = ((c .before .before .before .before .before .before .before .before .before .before .before .before .pre .1 .0) .named) })
 
 one-same-length-3 : (t : ℕ) → one-lts.Need-same-length-3 (one-calls t) (one-at t) one.Post
 one-same-length-3 t c = c .before .before .before .before .gen-expr .kept .1 .1 .1 .1 .0
@@ -2526,53 +2532,62 @@ one-same-length-8 t c = c .before .before .before .before .gen-expr3 .kept .1 .1
 one-returns-6 : (t : ℕ) → one-lts.Need-returns-6 (one-calls t) (one-at t) one.Post
 one-returns-6 t c = rw (c .before .before .before .before .before .before .before .before .before .before .before .before .before .enum-told3 .given .1) (field-arm (c .before .before .before .before .before .before .before .before .before .before .before .before .before .before .before .before .before .before .args .l) (c .before .before .before .before .before .before .before .before .before .before .before .before .before .before .before .before .before .before .args .p) (is-node (now (c .before .before .before .before .before .before .before .before .before .before .before .before .before .before .before .before .before .before .args .file)) (c .before .before .before .before .before .before .before .before .before .before .before .before .before .before .before .before .before .before .args .l) (c .before .before .before .before .before .before .before .before .before .before .before .before .before .before .before .before .before .before .args .p) ((c .before .before .before .before .before .before .before .before .before .before .before .before .before .before .before .before .before .before .pre .1 .0) .within) (c .before .before .before .before .before .before .before .before .before .before .before .before .node-at .ensures)) (c .before .before .before .before .before .before .before .before .before .before .before .name-of .result) (c .before .before .before .before .before .before .before .before .before .before .before .name-of .ensures (now (c .before .before .before .before .before .before .before .before .before .before .before .before .before .before .before .before .before .before .args .file)) (c .before .before .before .before .before .before .before .before .before .before .before .before .node-at .result .number) ((c .before .before .before .before .before .before .before .before .before .before .before .before .before .before .before .before .before .before .pre .1 .0) .within .sound .short) ((is-node (now (c .before .before .before .before .before .before .before .before .before .before .before .before .before .before .before .before .before .before .args .file)) (c .before .before .before .before .before .before .before .before .before .before .before .before .before .before .before .before .before .before .args .l) (c .before .before .before .before .before .before .before .before .before .before .before .before .before .before .before .before .before .before .args .p) ((c .before .before .before .before .before .before .before .before .before .before .before .before .before .before .before .before .before .before .pre .1 .0) .within) (c .before .before .before .before .before .before .before .before .before .before .before .before .node-at .ensures)) .named) .0) (c .before .before .before .before .before .before .before .before .before .push-string .ensures (c .before .before .before .before .before .before .before .before .before .before .before .name-of .ensures (now (c .before .before .before .before .before .before .before .before .before .before .before .before .before .before .before .before .before .before .args .file)) (c .before .before .before .before .before .before .before .before .before .before .before .before .node-at .result .number) ((c .before .before .before .before .before .before .before .before .before .before .before .before .before .before .before .before .before .before .pre .1 .0) .within .sound .short) ((is-node (now (c .before .before .before .before .before .before .before .before .before .before .before .before .before .before .before .before .before .before .args .file)) (c .before .before .before .before .before .before .before .before .before .before .before .before .before .before .before .before .before .before .args .l) (c .before .before .before .before .before .before .before .before .before .before .before .before .before .before .before .before .before .before .args .p) ((c .before .before .before .before .before .before .before .before .before .before .before .before .before .before .before .before .before .before .pre .1 .0) .within) (c .before .before .before .before .before .before .before .before .before .before .before .before .node-at .ensures)) .named) .1)) (c .before .before .before .before .gen-expr3 .ensures))
 
-one-returns-7 : (t : ℕ) → one-lts.Need-returns-7 (one-calls t) (one-at t) one.Post
-one-returns-7 t c = rw ((c .before .before .enum-told4 .given .1), ← c .before .is-hoisted .ensures, c .if1 .left) (idle ((c .before .before .before .before .before .before .before .pre .1 .0) .fine))
-
 one-same-length-9 : (t : ℕ) → one-lts.Need-same-length-9 (one-calls t) (one-at t) one.Post
-one-same-length-9 t c = c .before .before .before .before .gen-statement2 .kept .1 .1 .1 .1 .0
+one-same-length-9 t c = c .before .before .before .before .gen-statement .kept .1 .1 .1 .1 .0
 
 one-same-length-10 : (t : ℕ) → one-lts.Need-same-length-10 (one-calls t) (one-at t) one.Post
-one-same-length-10 t c = c .before .before .before .before .gen-statement2 .kept .1 .1 .1 .1 .1 .0
+one-same-length-10 t c = c .before .before .before .before .gen-statement .kept .1 .1 .1 .1 .1 .0
+
+one-returns-7 : (t : ℕ) → one-lts.Need-returns-7 (one-calls t) (one-at t) one.Post
+one-returns-7 t c = rw (c .before .before .before .before .before .before .before .enum-told4 .given .1) (c .before .before .before .before .gen-statement .ensures)
 
 one-returns-8 : (t : ℕ) → one-lts.Need-returns-8 (one-calls t) (one-at t) one.Post
-one-returns-8 t c = rw ((c .before .before .before .before .before .before .before .before .before .enum-told5 .given .1), ← c .before .before .before .before .before .before .before .before .is-hoisted2 .ensures, c .before .before .before .before .before .before .before .if2 .left) (c .before .before .before .before .gen-statement2 .ensures)
+one-returns-8 t c = rw ((c .before .before .enum-told5 .given .1), ← c .before .is-hoisted .ensures, c .if1 .left) (idle ((c .before .before .before .before .before .before .before .pre .1 .0) .fine))
 
 one-same-length-11 : (t : ℕ) → one-lts.Need-same-length-11 (one-calls t) (one-at t) one.Post
-one-same-length-11 t c = c .before .before .branch .kept .0 ∙ c .before .before .before .before .before .before .action .kept .0 ∙ c .before .before .before .before .before .before .before .before .before .before .before .before .gen-expr4 .kept .1 .1 .1 .1 .0 ∙ c .before .before .before .before .before .before .before .before .before .before .before .before .before .before .before .before .before .push-if .kept .0
+one-same-length-11 t c = c .before .before .before .before .gen-statement3 .kept .1 .1 .1 .1 .0
 
 one-same-length-12 : (t : ℕ) → one-lts.Need-same-length-12 (one-calls t) (one-at t) one.Post
-one-same-length-12 t c = c .before .before .before .before .before .before .before .before .before .before .before .before .gen-expr4 .kept .1 .1 .1 .1 .1 .0
+one-same-length-12 t c = c .before .before .before .before .gen-statement3 .kept .1 .1 .1 .1 .1 .0
 
 one-returns-9 : (t : ℕ) → one-lts.Need-returns-9 (one-calls t) (one-at t) one.Post
-one-returns-9 t c = rw ((c .before .before .before .before .before .before .before .before .before .before .before .before .before .before .before .before .before .before .before .before .before .before .before .enum-told6 .given .1), element-at (is-node (now (c .before .before .before .before .before .before .before .before .before .before .before .before .before .before .before .before .before .before .before .before .before .before .before .before .before .before .before .before .args .file)) (c .before .before .before .before .before .before .before .before .before .before .before .before .before .before .before .before .before .before .before .before .before .before .before .before .before .before .before .before .args .l) (c .before .before .before .before .before .before .before .before .before .before .before .before .before .before .before .before .before .before .before .before .before .before .before .before .before .before .before .before .args .p) ((c .before .before .before .before .before .before .before .before .before .before .before .before .before .before .before .before .before .before .before .before .before .before .before .before .before .before .before .before .pre .1 .0) .within) (c .before .before .before .before .before .before .before .before .before .before .before .before .before .before .before .before .before .before .before .before .before .before .node-at2 .ensures)) (c .before .before .before .before .before .before .before .before .before .before .before .before .before .before .before .before .before .before .before .before .before .element-of .ensures), (c .before .before .before .before .before .before .before .before .before .before .before .before .before .before .before .before .before .before .before .enum-told7 .given .1)) (test-arm (c .before .before .before .before .before .before .before .before .before .before .before .before .before .before .before .before .before .before .before .before .before .before .before .before .before .before .before .before .args .l) (c .before .before .before .before .before .before .before .before .before .before .before .before .before .before .before .before .before .before .before .before .before .before .before .before .before .before .before .before .args .p) (c .before .before .before .before .before .before .before .before .before .before .before .before .before .before .before .before .before .before .before .before .before .before .before .before .before .before .before .before .args .first) (c .before .before .before .before .before .before .before .before .before .before .before .before .before .before .before .before .before .before .before .before .before .before .before .before .before .before .before .before .args .seen) (c .before .before .before .before .before .before .before .before .before .before .before .before .before .before .before .before .before .before .before .before .before .before .before .before .before .before .before .before .args .cases) (c .before .before .before .before .before .before .before .before .before .before .before .before .before .before .before .before .before .push-if .ensures (now (c .before .before .before .before .before .before .before .before .before .before .before .before .before .before .before .before .before .before .before .before .before .before .before .before .before .before .before .before .args .file))) (c .before .before .before .before .before .before .before .before .before .before .before .before .gen-expr4 .ensures) (c .before .before .before .before .before .before .action .ensures (now (c .before .before .before .before .before .before .before .before .before .before .before .before .before .before .before .before .before .before .before .before .before .before .before .before .before .before .before .before .args .file))) (c .before .before .branch .ensures (now (c .before .before .before .before .before .before .before .before .before .before .before .before .before .before .before .before .before .before .before .before .before .before .before .before .before .before .before .before .args .file))))
-
-one-returns-10 : (t : ℕ) → one-lts.Need-returns-10 (one-calls t) (one-at t) one.Post
-one-returns-10 t c = rw ((c .before .before .before .before .enum-told6 .given .1), element-at (is-node (now (c .before .before .before .before .before .before .before .before .before .args .file)) (c .before .before .before .before .before .before .before .before .before .args .l) (c .before .before .before .before .before .before .before .before .before .args .p) ((c .before .before .before .before .before .before .before .before .before .pre .1 .0) .within) (c .before .before .before .node-at2 .ensures)) (c .before .before .element-of .ensures), (c .enum-told8 .given .1)) (idle ((c .before .before .before .before .before .before .before .before .before .pre .1 .0) .fine))
-
-one-returns-11 : (t : ℕ) → one-lts.Need-returns-11 (one-calls t) (one-at t) one.Post
-one-returns-11 t c = rw ((c .before .before .before .before .enum-told6 .given .1), element-at (is-node (now (c .before .before .before .before .before .before .before .before .before .args .file)) (c .before .before .before .before .before .before .before .before .before .args .l) (c .before .before .before .before .before .before .before .before .before .args .p) ((c .before .before .before .before .before .before .before .before .before .pre .1 .0) .within) (c .before .before .before .node-at2 .ensures)) (c .before .before .element-of .ensures), (c .enum-told9 .given .1)) (idle ((c .before .before .before .before .before .before .before .before .before .pre .1 .0) .fine))
+one-returns-9 t c = rw ((c .before .before .before .before .before .before .before .before .before .enum-told6 .given .1), ← c .before .before .before .before .before .before .before .before .is-hoisted2 .ensures, c .before .before .before .before .before .before .before .if2 .left) (c .before .before .before .before .gen-statement3 .ensures)
 
 one-same-length-13 : (t : ℕ) → one-lts.Need-same-length-13 (one-calls t) (one-at t) one.Post
-one-same-length-13 t c = c .before .before .mark-label .kept .0
-
-one-returns-12 : (t : ℕ) → one-lts.Need-returns-12 (one-calls t) (one-at t) one.Post
-one-returns-12 t c = rw ((c .before .before .before .before .before .before .before .before .enum-told10 .given .1), element-at (is-node (now (c .before .before .before .before .before .before .before .before .before .before .before .before .before .args .file)) (c .before .before .before .before .before .before .before .before .before .before .before .before .before .args .l) (c .before .before .before .before .before .before .before .before .before .before .before .before .before .args .p) ((c .before .before .before .before .before .before .before .before .before .before .before .before .before .pre .1 .0) .within) (c .before .before .before .before .before .before .before .node-at3 .ensures)) (c .before .before .before .before .before .before .element-of2 .ensures), (c .before .before .before .before .enum-told11 .given .1)) (c .before .before .mark-label .ensures (now (c .before .before .before .before .before .before .before .before .before .before .before .before .before .args .file)))
+one-same-length-13 t c = c .before .before .branch .kept .0 ∙ c .before .before .before .before .before .before .action .kept .0 ∙ c .before .before .before .before .before .before .before .before .before .before .before .before .gen-expr4 .kept .1 .1 .1 .1 .0 ∙ c .before .before .before .before .before .before .before .before .before .before .before .before .before .before .before .before .before .push-if .kept .0
 
 one-same-length-14 : (t : ℕ) → one-lts.Need-same-length-14 (one-calls t) (one-at t) one.Post
-one-same-length-14 t c = c .before .before .mark-default .kept .0
+one-same-length-14 t c = c .before .before .before .before .before .before .before .before .before .before .before .before .gen-expr4 .kept .1 .1 .1 .1 .1 .0
 
-one-returns-13 : (t : ℕ) → one-lts.Need-returns-13 (one-calls t) (one-at t) one.Post
-one-returns-13 t c = rw ((c .before .before .before .before .before .before .before .before .enum-told10 .given .1), element-at (is-node (now (c .before .before .before .before .before .before .before .before .before .before .before .before .before .args .file)) (c .before .before .before .before .before .before .before .before .before .before .before .before .before .args .l) (c .before .before .before .before .before .before .before .before .before .before .before .before .before .args .p) ((c .before .before .before .before .before .before .before .before .before .before .before .before .before .pre .1 .0) .within) (c .before .before .before .before .before .before .before .node-at3 .ensures)) (c .before .before .before .before .before .before .element-of2 .ensures), (c .before .before .before .before .enum-told12 .given .1)) (c .before .before .mark-default .ensures (now (c .before .before .before .before .before .before .before .before .before .before .before .before .before .args .file)))
+one-returns-10 : (t : ℕ) → one-lts.Need-returns-10 (one-calls t) (one-at t) one.Post
+one-returns-10 t c = rw ((c .before .before .before .before .before .before .before .before .before .before .before .before .before .before .before .before .before .before .before .before .before .before .before .enum-told7 .given .1), element-at (is-node (now (c .before .before .before .before .before .before .before .before .before .before .before .before .before .before .before .before .before .before .before .before .before .before .before .before .before .before .before .before .args .file)) (c .before .before .before .before .before .before .before .before .before .before .before .before .before .before .before .before .before .before .before .before .before .before .before .before .before .before .before .before .args .l) (c .before .before .before .before .before .before .before .before .before .before .before .before .before .before .before .before .before .before .before .before .before .before .before .before .before .before .before .before .args .p) ((c .before .before .before .before .before .before .before .before .before .before .before .before .before .before .before .before .before .before .before .before .before .before .before .before .before .before .before .before .pre .1 .0) .within) (c .before .before .before .before .before .before .before .before .before .before .before .before .before .before .before .before .before .before .before .before .before .before .node-at2 .ensures)) (c .before .before .before .before .before .before .before .before .before .before .before .before .before .before .before .before .before .before .before .before .before .element-of .ensures), (c .before .before .before .before .before .before .before .before .before .before .before .before .before .before .before .before .before .before .before .enum-told8 .given .1)) (test-arm (c .before .before .before .before .before .before .before .before .before .before .before .before .before .before .before .before .before .before .before .before .before .before .before .before .before .before .before .before .args .l) (c .before .before .before .before .before .before .before .before .before .before .before .before .before .before .before .before .before .before .before .before .before .before .before .before .before .before .before .before .args .p) (c .before .before .before .before .before .before .before .before .before .before .before .before .before .before .before .before .before .before .before .before .before .before .before .before .before .before .before .before .args .first) (c .before .before .before .before .before .before .before .before .before .before .before .before .before .before .before .before .before .before .before .before .before .before .before .before .before .before .before .before .args .seen) (c .before .before .before .before .before .before .before .before .before .before .before .before .before .before .before .before .before .before .before .before .before .before .before .before .before .before .before .before .args .cases) (c .before .before .before .before .before .before .before .before .before .before .before .before .before .before .before .before .before .push-if .ensures (now (c .before .before .before .before .before .before .before .before .before .before .before .before .before .before .before .before .before .before .before .before .before .before .before .before .before .before .before .before .args .file))) (c .before .before .before .before .before .before .before .before .before .before .before .before .gen-expr4 .ensures) (c .before .before .before .before .before .before .action .ensures (now (c .before .before .before .before .before .before .before .before .before .before .before .before .before .before .before .before .before .before .before .before .before .before .before .before .before .before .before .before .args .file))) (c .before .before .branch .ensures (now (c .before .before .before .before .before .before .before .before .before .before .before .before .before .before .before .before .before .before .before .before .before .before .before .before .before .before .before .before .args .file))))
+
+one-returns-11 : (t : ℕ) → one-lts.Need-returns-11 (one-calls t) (one-at t) one.Post
+one-returns-11 t c = rw ((c .before .before .before .before .enum-told7 .given .1), element-at (is-node (now (c .before .before .before .before .before .before .before .before .before .args .file)) (c .before .before .before .before .before .before .before .before .before .args .l) (c .before .before .before .before .before .before .before .before .before .args .p) ((c .before .before .before .before .before .before .before .before .before .pre .1 .0) .within) (c .before .before .before .node-at2 .ensures)) (c .before .before .element-of .ensures), (c .enum-told9 .given .1)) (idle ((c .before .before .before .before .before .before .before .before .before .pre .1 .0) .fine))
+
+one-returns-12 : (t : ℕ) → one-lts.Need-returns-12 (one-calls t) (one-at t) one.Post
+one-returns-12 t c = rw ((c .before .before .before .before .enum-told7 .given .1), element-at (is-node (now (c .before .before .before .before .before .before .before .before .before .args .file)) (c .before .before .before .before .before .before .before .before .before .args .l) (c .before .before .before .before .before .before .before .before .before .args .p) ((c .before .before .before .before .before .before .before .before .before .pre .1 .0) .within) (c .before .before .before .node-at2 .ensures)) (c .before .before .element-of .ensures), (c .enum-told10 .given .1)) (idle ((c .before .before .before .before .before .before .before .before .before .pre .1 .0) .fine))
 
 one-same-length-15 : (t : ℕ) → one-lts.Need-same-length-15 (one-calls t) (one-at t) one.Post
-one-same-length-15 t c = c .before .before .before .before .gen-statement3 .kept .1 .1 .1 .1 .0
+one-same-length-15 t c = c .before .before .mark-label .kept .0
+
+one-returns-13 : (t : ℕ) → one-lts.Need-returns-13 (one-calls t) (one-at t) one.Post
+one-returns-13 t c = rw ((c .before .before .before .before .before .before .before .before .enum-told11 .given .1), element-at (is-node (now (c .before .before .before .before .before .before .before .before .before .before .before .before .before .args .file)) (c .before .before .before .before .before .before .before .before .before .before .before .before .before .args .l) (c .before .before .before .before .before .before .before .before .before .before .before .before .before .args .p) ((c .before .before .before .before .before .before .before .before .before .before .before .before .before .pre .1 .0) .within) (c .before .before .before .before .before .before .before .node-at3 .ensures)) (c .before .before .before .before .before .before .element-of2 .ensures), (c .before .before .before .before .enum-told12 .given .1)) (c .before .before .mark-label .ensures (now (c .before .before .before .before .before .before .before .before .before .before .before .before .before .args .file)))
 
 one-same-length-16 : (t : ℕ) → one-lts.Need-same-length-16 (one-calls t) (one-at t) one.Post
-one-same-length-16 t c = c .before .before .before .before .gen-statement3 .kept .1 .1 .1 .1 .1 .0
+one-same-length-16 t c = c .before .before .mark-default .kept .0
 
 one-returns-14 : (t : ℕ) → one-lts.Need-returns-14 (one-calls t) (one-at t) one.Post
-one-returns-14 t c = rw ((c .before .before .before .before .before .before .before .before .before .before .before .before .enum-told10 .given .1), element-at (is-node (now (c .before .before .before .before .before .before .before .before .before .before .before .before .before .before .before .before .before .args .file)) (c .before .before .before .before .before .before .before .before .before .before .before .before .before .before .before .before .before .args .l) (c .before .before .before .before .before .before .before .before .before .before .before .before .before .before .before .before .before .args .p) ((c .before .before .before .before .before .before .before .before .before .before .before .before .before .before .before .before .before .pre .1 .0) .within) (c .before .before .before .before .before .before .before .before .before .before .before .node-at3 .ensures)) (c .before .before .before .before .before .before .before .before .before .before .element-of2 .ensures), (c .before .before .before .before .before .before .before .before .enum-told13 .given .1), lt-ltb 0 (c .before .before .before .before .before .before .before .before .before .before .before .before .before .before .before .before .before .args .seen) (omega (arith, c .before .before .before .before .before .before .before .if3 .left))) (c .before .before .before .before .gen-statement3 .ensures)
+one-returns-14 t c = rw ((c .before .before .before .before .before .before .before .before .enum-told11 .given .1), element-at (is-node (now (c .before .before .before .before .before .before .before .before .before .before .before .before .before .args .file)) (c .before .before .before .before .before .before .before .before .before .before .before .before .before .args .l) (c .before .before .before .before .before .before .before .before .before .before .before .before .before .args .p) ((c .before .before .before .before .before .before .before .before .before .before .before .before .before .pre .1 .0) .within) (c .before .before .before .before .before .before .before .node-at3 .ensures)) (c .before .before .before .before .before .before .element-of2 .ensures), (c .before .before .before .before .enum-told13 .given .1)) (c .before .before .mark-default .ensures (now (c .before .before .before .before .before .before .before .before .before .before .before .before .before .args .file)))
+
+one-same-length-17 : (t : ℕ) → one-lts.Need-same-length-17 (one-calls t) (one-at t) one.Post
+one-same-length-17 t c = c .before .before .before .before .gen-statement4 .kept .1 .1 .1 .1 .0
+
+one-same-length-18 : (t : ℕ) → one-lts.Need-same-length-18 (one-calls t) (one-at t) one.Post
+one-same-length-18 t c = c .before .before .before .before .gen-statement4 .kept .1 .1 .1 .1 .1 .0
+
+one-returns-15 : (t : ℕ) → one-lts.Need-returns-15 (one-calls t) (one-at t) one.Post
+one-returns-15 t c = rw ((c .before .before .before .before .before .before .before .before .before .before .before .before .enum-told11 .given .1), element-at (is-node (now (c .before .before .before .before .before .before .before .before .before .before .before .before .before .before .before .before .before .args .file)) (c .before .before .before .before .before .before .before .before .before .before .before .before .before .before .before .before .before .args .l) (c .before .before .before .before .before .before .before .before .before .before .before .before .before .before .before .before .before .args .p) ((c .before .before .before .before .before .before .before .before .before .before .before .before .before .before .before .before .before .pre .1 .0) .within) (c .before .before .before .before .before .before .before .before .before .before .before .node-at3 .ensures)) (c .before .before .before .before .before .before .before .before .before .before .element-of2 .ensures), (c .before .before .before .before .before .before .before .before .enum-told14 .given .1), lt-ltb 0 (c .before .before .before .before .before .before .before .before .before .before .before .before .before .before .before .before .before .args .seen) (omega (arith, c .before .before .before .before .before .before .before .if3 .left))) (c .before .before .before .before .gen-statement4 .ensures)
 
 pub +adjust+args+drag+each+ends+exit+for-expr+gen-binary-op+gen-call+gen-expr+gen-for-loop+gen-function+gen-if+gen-statement+gen-statements+gen-switch+gen-ternary+gen-unary-op+gen-while-loop+goto+one-spec :
     {M : Type 1} → statement M
@@ -2625,7 +2640,7 @@ pub +adjust+args+drag+each+ends+exit+for-expr+gen-binary-op+gen-call+gen-expr+ge
     args-μ-loop
     (args-loop-holds t)
     (args-gen-expr-requires t)
-    (args-node-at-requires t)
+    (args-rest-of-requires t)
     (args-loop-less t)
     (args-loop-again t)
     (args-push-count-requires t)
@@ -3301,37 +3316,39 @@ pub +adjust+args+drag+each+ends+exit+for-expr+gen-binary-op+gen-call+gen-expr+ge
     (one-push-string-requires t)
     (one-gen-expr-requires-3 t)
     (one-enum-told-4 t)
-    (one-is-hoisted-requires t)
     (one-gen-statement-requires t)
+    (one-enum-told-5 t)
+    (one-is-hoisted-requires t)
+    (one-gen-statement-requires-2 t)
     (one-same-length t)
     (one-same-length-2 t)
     (one-returns t)
-    (one-enum-told-5 t)
+    (one-enum-told-6 t)
     (one-is-hoisted-requires-2 t)
     (one-returns-2 t)
-    (one-gen-statement-requires-2 t)
-    (one-enum-told-6 t)
+    (one-gen-statement-requires-3 t)
+    (one-enum-told-7 t)
     (one-node-at-requires-2 t)
     (one-element-of-requires t)
-    (one-enum-told-7 t)
+    (one-enum-told-8 t)
     (one-push-if-requires t)
     (one-gen-expr-requires-4 t)
     (one-action-requires t)
-    (one-add-t66 t)
+    (one-add-t70 t)
     (one-branch-requires t)
-    (one-enum-told-8 t)
     (one-enum-told-9 t)
     (one-enum-told-10 t)
+    (one-enum-told-11 t)
     (one-node-at-requires-3 t)
     (one-element-of-requires-2 t)
-    (one-enum-told-11 t)
-    (one-add-t71 t)
-    (one-mark-label-requires t)
     (one-enum-told-12 t)
-    (one-mark-default-requires t)
+    (one-add-t75 t)
+    (one-mark-label-requires t)
     (one-enum-told-13 t)
+    (one-mark-default-requires t)
+    (one-enum-told-14 t)
     (one-returns-3 t)
-    (one-gen-statement-requires-3 t)
+    (one-gen-statement-requires-4 t)
     (one-same-length-3 t)
     (one-same-length-4 t)
     (one-returns-4 t)
@@ -3341,19 +3358,22 @@ pub +adjust+args+drag+each+ends+exit+for-expr+gen-binary-op+gen-call+gen-expr+ge
     (one-same-length-7 t)
     (one-same-length-8 t)
     (one-returns-6 t)
-    (one-returns-7 t)
     (one-same-length-9 t)
     (one-same-length-10 t)
+    (one-returns-7 t)
     (one-returns-8 t)
     (one-same-length-11 t)
     (one-same-length-12 t)
     (one-returns-9 t)
+    (one-same-length-13 t)
+    (one-same-length-14 t)
     (one-returns-10 t)
     (one-returns-11 t)
-    (one-same-length-13 t)
     (one-returns-12 t)
-    (one-same-length-14 t)
-    (one-returns-13 t)
     (one-same-length-15 t)
+    (one-returns-13 t)
     (one-same-length-16 t)
     (one-returns-14 t)
+    (one-same-length-17 t)
+    (one-same-length-18 t)
+    (one-returns-15 t)
