@@ -6,7 +6,7 @@ ghost use lib.Dec.{T};
 ghost use lib.ListN.{length};
 ghost use Rattle.script_records.specs.Layout.{layoutOf, stringAt};
 ghost use Rattle.script.specs.Resolve.{constantOver};
-ghost use Rattle.script_records.specs.Numbers.{unsigned};
+ghost use Rattle.decode.specs.Numbers.{unsigned};
 ghost use Rattle.lowering.specs.Builder as steps;
 ghost use Rattle.lowering.specs.Access.{for-identifier, for-name, for-constant, get-value, set-value, get-and-set-value, delete, call, call-new};
 ghost use Rattle.special_properties.specs.SpecialProperties.{sameBytes, null, undefined};

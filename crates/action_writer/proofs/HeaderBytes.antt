@@ -13,9 +13,9 @@ use Rattle.hir.specs.Hir.{Str}
 use Rattle.pcode.specs.Pcode.{Param}
 use Rattle.script_records.specs.declared.layout.Layout.{Layout}
 use Rattle.script_records.specs.Layout.{layoutOf, stringAt, rowIn}
-use Rattle.script_records.specs.Decode as decode
-use Rattle.script_records.specs.Decode.{recordOf, nameOf, marksOf, functionOf}
-use Rattle.script_records.specs.Numbers.{bit}
+use Rattle.decode.specs.Decode as decode
+use Rattle.decode.specs.Decode.{recordOf, nameOf, marksOf, functionOf}
+use Rattle.decode.specs.Numbers.{bit}
 use Rattle.script.specs.Resolve.{resolved}
 use Rattle.lowering.specs.Statement.{header}
 use Rattle.action_format.specs.Lists.{all}

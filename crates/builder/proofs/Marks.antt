@@ -9,7 +9,7 @@ use lib.Dec.{eqb}
 use lib.ListN.{length, getD, set, take, drop, replicate, length-set, length-take, length-drop, length-replicate, getD-replicate, List·getD-eq-default}
 use lib.Seq.{getD-set-other, getD-drop, getD-take, take-add, drop-drop, ext-getD, drop-set-add, take-set-lt, drop-set-lt}
 use borrow.Author.Tests.{lt-ltb, le-ltb, eq-eqb, ne-eqb}
-use Rattle.script_records.proofs.DecodeLaws.{any-default}
+use Rattle.decode.proofs.DecodeLaws.{any-default}
 use Rattle.pcode.specs.Pcode.{Delta}
 use Rattle.lowering.specs.Builder.{with-labels, create-label, assume-stack-delta, mark-or}
 use Rattle.list_slice.specs.Entry.{Piece, entryOf}

@@ -11,7 +11,7 @@ use mir.Syntax.{w32}
 use mir.Val.{Fits, SFits}
 use Rattle.pcode.specs.declared.PushValue.{PushValue}
 use Rattle.pcode.specs.declared.PushValue.the-variants as pushing
-use Rattle.script_records.specs.Numbers.{unsigned}
+use Rattle.decode.specs.Numbers.{unsigned}
 use Rattle.list_slice.specs.Entry.{bit}
 use Rattle.builder.specs.Values.{IsValue}
 

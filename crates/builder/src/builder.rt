@@ -13,7 +13,7 @@ ghost use Rattle.lowering.specs.Statement as statement;
 ghost use Rattle.list_slice.specs.File.{namesString, textIn};
 ghost use Rattle.codegen_state.specs.View.{gather, openOf, valueIn, named};
 ghost use Rattle.codegen_state.specs.Does.{Fine, Does, Says};
-ghost use Rattle.script_records.specs.Numbers.{unsigned};
+ghost use Rattle.decode.specs.Numbers.{unsigned};
 ghost use Rattle.list_slice.specs.Entry as entry;
 ghost use Rattle.builder.specs.Values.{IsValue};
 use crate::entries::grow;

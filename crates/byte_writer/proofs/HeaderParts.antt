@@ -8,12 +8,12 @@ use lib.Dec.{ltb}
 use lib.ListN.{length, length-append}
 use Rattle.hir.specs.Hir.{Rec}
 use Rattle.hir.specs.Tree.{Forest, none, more}
-use Rattle.script_records.specs.declared.decode.Function.{Function}
+use Rattle.decode.specs.declared.Function.{Function}
 use Rattle.script_records.specs.declared.layout.Layout.{Layout}
 use Rattle.script_records.specs.declared.layout.Row.{Row}
 use Rattle.script_records.specs.declared.part.Part.{Part}
 use Rattle.script_records.specs.Layout.{wordsOf}
-use Rattle.script_records.specs.Decode.{functionOf}
+use Rattle.decode.specs.Decode.{functionOf}
 use Rattle.lowering.specs.Meaning.{param, width}
 use Rattle.list_slice.specs.File.{paramsOf}
 use Rattle.action_format.specs.Bytes.{Bytes, word, zero-ended}

@@ -8,14 +8,14 @@ use lib.ListN.{length, getD}
 use Rattle.hir.specs.declared.Record.{Record}
 use Rattle.hir.specs.declared.Record.the-variants as kind
 use Rattle.pcode.specs.Pcode as pcode
-use Rattle.script_records.specs.declared.decode.Name.{Name}
-use Rattle.script_records.specs.declared.decode.Name.the-variants as name
+use Rattle.decode.specs.declared.Name.{Name}
+use Rattle.decode.specs.declared.Name.the-variants as name
 use Rattle.script_records.specs.declared.layout.Layout.{Layout}
 use Rattle.script_records.specs.declared.layout.Row.{Row}
 use Rattle.script_records.specs.declared.part.Part.{Part}
 use Rattle.script_records.specs.Layout.{rowIn, wordsOf}
-use Rattle.script_records.specs.Numbers.{bit}
-use Rattle.script_records.specs.Decode.{functionOf}
+use Rattle.decode.specs.Numbers.{bit}
+use Rattle.decode.specs.Decode.{functionOf}
 use Rattle.lowering.specs.Meaning.{list}
 use Rattle.list_slice.specs.File.{noString, paramsOf}
 use Rattle.action_format.specs.Bytes.{Bytes, word, zero-ended, join}

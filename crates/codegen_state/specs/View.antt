@@ -7,7 +7,7 @@ use lib.ListN.{length, take, drop}
 use Rattle.pcode.specs.Pcode.{Value, Header, Action, Item}
 use Rattle.pcode.specs.declared.PushValue.{PushValue}
 use Rattle.pcode.specs.declared.PushValue.the-variants as pushing
-use Rattle.script_records.specs.Numbers.{unsigned}
+use Rattle.decode.specs.Numbers.{unsigned}
 use Rattle.lowering.specs.Builder.{limits01, Builder, State, Result, ok, refused, M, Step, close}
 use Rattle.list_slice.specs.Entry.{Pushed, Piece, Entry, pieceOf}
 use Rattle.list_slice.specs.Entry as entry

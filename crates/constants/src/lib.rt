@@ -5,7 +5,6 @@ ghost use mathlib.Core.Option.{none, some};
 ghost use Prim.Native.Nat.{_+_, _<_, _≤_};
 ghost use lib.Dec.{T};
 ghost use lib.ListN.{length, take, drop};
-ghost use Rattle.special_properties.specs.SpecialProperties.{sameBytes};
 ghost use Rattle.script_records.specs.Layout.{layoutOf};
 ghost use Rattle.lowering.specs.Builder.{push-string};
 ghost use Rattle.list_slice.specs.File.{namesString, textIn};
@@ -18,6 +17,7 @@ use codegen_state::CodeBuilder;
 use pcode::PushValue;
 use script_records::layout::Layout;
 use script_records::layout::string;
+use special_properties::same_bytes;
 
 // The string of a reference.
 pub fn text(file: &[u8], l: Layout, s: u32) -> &[u8]
@@ -28,23 +28,6 @@ pub fn text(file: &[u8], l: Layout, s: u32) -> &[u8]
         return &file[0..0];
     }
     string(file, l, s as usize)
-}
-
-fn same(a: &[u8], b: &[u8]) -> bool
-    ensures { λ r. ⌜ r ≡ sameBytes (now (a .entry)) (now (b .entry)) ⌝ }
-{
-    let n = a.len();
-    if b.len() != n {
-        return false;
-    }
-    let mut k: usize = 0;
-    while k < n {
-        if a[k] != b[k] {
-            return false;
-        }
-        k += 1;
-    }
-    true
 }
 
 // The place of a string in the pool, or none.
@@ -97,7 +80,7 @@ fn find(file: &[u8], l: Layout, list: &[u32], n: u32, s: u32) -> Found
         let i = next - 1;
         let at = i as usize;
         let held = text(file, l, list[14336 + at]);
-        let agrees = same(sought, held);
+        let agrees = same_bytes(sought, held);
         found = nearer(agrees, i, found);
         next = list[18432 + at];
     }

@@ -25,10 +25,10 @@ use Rattle.hir.specs.declared.Record.the-variants as kind
 use Rattle.utf8.specs.Utf8.{utf8}
 use Rattle.script_records.specs.declared.layout.Layout.{Layout}
 use Rattle.script_records.specs.Layout.{Words, supported, trailerAt, recordDistance, endDistance, recordCount, stringCount, layoutOf, stringAt, stringsFrom, stringsOf, rowsOf}
-use Rattle.script_records.specs.Decode.{signed, isOne, constantOf, conditionOf, statementKinds, exprKinds, plainOf, when, recordOf}
+use Rattle.decode.specs.Decode.{signed, isOne, constantOf, conditionOf, statementKinds, exprKinds, plainOf, when, recordOf}
 use Rattle.script.specs.Forms.{Form, form, string, below, forInForm, constantForms, unknown, formOf, hasForm, fits}
 use Rattle.script.specs.Rules.{rulesHold, allUtf8, allSupported, maxBytes, maxDepth, treeIn, checkOf}
-use Rattle.script_records.specs.Numbers.{unsigned}
+use Rattle.decode.specs.Numbers.{unsigned}
 use Rattle.script.specs.Resolve.{constantOver, exprOver, statementOver, resolved, scriptOf}
 use Rattle.script.specs.Write.{Bytes, allFit, areWords, WellFormed}
 use Rattle.script.proofs.WrittenRows.{first, second, forest-count}

@@ -12,7 +12,7 @@ use Rattle.pcode.specs.Pcode.{Constant, DefineFunction}
 use Rattle.special_properties.specs.SpecialProperties.{names, same, toAsciiLowercase, firstFrom, getSpecialProperty}
 use Rattle.utf8.specs.Utf8.{started, next, completes, utf8}
 use Rattle.script_records.specs.Layout.{wordAt, layoutOf, endAt, stringAt, stringsFrom, stringsOf, rowAt, rowsFrom, rowsOf, spanAt, forestIn, forest}
-use Rattle.script_records.specs.Decode.{signed, binaryOperators, constantOf, statementKinds, plainOf, recordOf}
+use Rattle.decode.specs.Decode.{signed, binaryOperators, constantOf, statementKinds, plainOf, recordOf}
 use Rattle.script.specs.Forms.{formOf, allOf, matches, trees, fits}
 use Rattle.script.specs.Rules.{allBelow, partedIn, parted, recordHolds, rootHolds, rulesHold, allUtf8, allSupported, treeIn, checkOf}
 use Rattle.script.specs.Resolve.{resolved, scriptOf}

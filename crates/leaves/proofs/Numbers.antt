@@ -8,7 +8,7 @@ use lib.IntN.{ℤ, pos, negsuc, predℤ, negℤ, _-ℤ_, -ℤ-one, +ℤ-idl}
 use borrow.Author.Tests.{eq-eqb, ne-eqb}
 use mir.Syntax.{w32}
 use mir.Val.{SFits, ofZ}
-use Rattle.script_records.specs.Numbers.{unsigned}
+use Rattle.decode.specs.Numbers.{unsigned}
 use Rattle.lowering.specs.Statement.{frame}
 
 -- the bits of a number are its word

@@ -19,7 +19,7 @@ use Rattle.script_records.specs.declared.layout.Layout.{Layout}
 use Rattle.script_records.specs.declared.part.Part.{Part}
 use Rattle.script_records.specs.Layout.{Words, wordsOf, supported, rowsOf, layoutOf, stringAt}
 use Rattle.script_records.specs.Parts.{lastTree}
-use Rattle.script_records.specs.Decode.{statementKinds, exprKinds, plainOf, recordOf}
+use Rattle.decode.specs.Decode.{statementKinds, exprKinds, plainOf, recordOf}
 use Rattle.script.specs.Resolve.{resolved}
 use Rattle.lowering.specs.Builder.{name-delta}
 use Rattle.lowering.specs.Meaning.{Meaning, Shape, param, hoisted, is-named, shapeOf, kid}

@@ -8,7 +8,7 @@ ghost use lib.ListN.{length};
 ghost use Rattle.pcode.specs.Pcode.{Value, moved, Integer, Float};
 ghost use Rattle.pcode.specs.declared.Op.the-variants.{Play};
 ghost use Rattle.script_records.specs.Layout.{layoutOf, stringAt};
-ghost use Rattle.script_records.specs.Numbers.{unsigned};
+ghost use Rattle.decode.specs.Numbers.{unsigned};
 ghost use Rattle.script.specs.Resolve.{constantOver, targetOver};
 ghost use Rattle.lowering.specs.Builder.{when, name-delta};
 ghost use Rattle.lowering.specs.Builder as steps;

@@ -11,7 +11,7 @@ use Rattle.pcode.specs.declared.Op.{Op}
 use Rattle.pcode.specs.declared.Op.the-variants as op
 use Rattle.pcode.specs.Pcode.{Value, Plain, Action, Item, Branching, DefineFunction}
 use Rattle.script_records.specs.Layout.{Words, wordAt, layoutOf, endAt, stringAt, rowAt, rowsFrom, rowsOf, spanAt, forestIn, forest}
-use Rattle.script_records.specs.Decode.{signed, binaryOperators, unaryOf, constantOf, conditionOf, statementKinds, exprKinds, plainOf, recordOf}
+use Rattle.decode.specs.Decode.{signed, binaryOperators, unaryOf, constantOf, conditionOf, statementKinds, exprKinds, plainOf, recordOf}
 use Rattle.script.specs.Rules.{treeIn}
 use Rattle.script.specs.Resolve.{resolved, scriptOf}
 use Rattle.script.specs.Write as file

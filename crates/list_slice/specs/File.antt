@@ -9,7 +9,7 @@ use Rattle.hir.specs.Hir.{Str, Rec, ExprKind}
 use Rattle.hir.specs.Tree.{Forest, more, mapForest}
 use Rattle.pcode.specs.Pcode.{Param, Header, DefineFunction}
 use Rattle.script_records.specs.Layout.{Words, layoutOf, stringAt, wordsOf, rowIn, rowsOf, childrenOf}
-use Rattle.script_records.specs.Decode.{recordOf}
+use Rattle.decode.specs.Decode.{recordOf}
 use Rattle.script.specs.Resolve.{resolved}
 use Rattle.lowering.specs.Meaning.{list, param}
 use Rattle.lowering.specs.Statement.{header}

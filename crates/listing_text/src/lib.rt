@@ -29,7 +29,7 @@ use crate::text::put_hex;
 use crate::text::put_number;
 use crate::text::put_string;
 use crate::text::put_text;
-use script_records::decode::Function;
+use decode::Function;
 use script_records::layout::Layout;
 use script_records::layout::layout_of;
 

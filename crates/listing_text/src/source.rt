@@ -1,9 +1,9 @@
 // What the references of a list slice refer to: strings and functions of a script file, or of the action bytes that were read.
 ghost use Prim.Native.Nat.{_≤_};
 use crate::entries::pool_word;
-use script_records::decode::Function;
-use script_records::decode::Name;
-use script_records::decode::function_of;
+use decode::Function;
+use decode::Name;
+use decode::function_of;
 use script_records::layout::Layout;
 use script_records::layout::Row;
 use script_records::layout::row_at;

@@ -11,7 +11,7 @@ use Rattle.hir.specs.declared.ExprKind.the-variants as expr
 use Rattle.hir.specs.declared.Record.{Record}
 use Rattle.hir.specs.declared.Record.the-variants as kind
 use Rattle.script_records.specs.Layout.{layoutOf, stringAt}
-use Rattle.script_records.specs.Numbers.{unsigned}
+use Rattle.decode.specs.Numbers.{unsigned}
 use Rattle.script.specs.Resolve.{constantOver}
 use Rattle.lowering.specs.Meaning as meaning
 use Rattle.operators.specs.declared.shape.Shape.{Shape}

@@ -20,7 +20,7 @@ use Rattle.lowering.specs.Meaning.{param}
 use Rattle.hir.specs.declared.ExprKind.the-variants as expr
 use Rattle.script_records.specs.declared.layout.Row.{Row}
 use Rattle.script_records.specs.Layout.{Words, wordsOf, rowIn}
-use Rattle.script_records.specs.Decode.{recordOf}
+use Rattle.decode.specs.Decode.{recordOf}
 use Rattle.lowering.specs.Meaning.{list}
 use Rattle.lowering.specs.Statement.{header, meanings, params}
 use Rattle.lowering.proofs.Laws.{list-law}

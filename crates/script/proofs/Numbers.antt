@@ -10,8 +10,8 @@ use borrow.Author.Tests.{ltb-true, ltb-false, eqb-true, ne-eqb}
 use Rattle.hir.specs.Tree.{Forest}
 use Rattle.hir.specs.declared.BinaryOperator.the-variants as binary
 use Rattle.script_records.specs.Layout.{Words, supported}
-use Rattle.script_records.specs.Decode.{signed, isOne, affixOf, binaryOperators, unaryOf, constantOf, conditionOf, statementKinds, exprKinds, plainOf, recordOf, nameOf, marksOf, functionOf}
-use Rattle.script_records.specs.Numbers.{words, bit, unsigned, affixPlace, binaryPlace, wordsFor, marksNumber, nameNumber, functionWords}
+use Rattle.decode.specs.Decode.{signed, isOne, affixOf, binaryOperators, unaryOf, constantOf, conditionOf, statementKinds, exprKinds, plainOf, recordOf, nameOf, marksOf, functionOf}
+use Rattle.decode.specs.Numbers.{words, bit, unsigned, affixPlace, binaryPlace, wordsFor, marksNumber, nameNumber, functionWords}
 use Rattle.script.specs.Forms.{Scalar, below, string, optional-string, limit, Form, form, counted, unsupported, unknown, kindForms, formOf, hasForm, fits}
 use Rattle.script.specs.Rules.{allBelow}
 use Rattle.script.proofs.WrittenRows.{first, second}

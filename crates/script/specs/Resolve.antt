@@ -22,8 +22,8 @@ use Rattle.hir.specs.declared.Record.the-variants as kind
 use Rattle.script_records.specs.declared.layout.Layout.{Layout}
 use Rattle.script_records.specs.Layout.{layoutOf, stringAt}
 use Rattle.script.specs.Rules.{treeIn}
-use Rattle.script_records.specs.Decode.{recordOf}
-use Rattle.script_records.specs.Numbers.{unsigned}
+use Rattle.decode.specs.Decode.{recordOf}
+use Rattle.decode.specs.Numbers.{unsigned}
 
 -- a string is what `text` has at its index
 module _ (text : ℕ → Str) where

@@ -6,7 +6,7 @@ ghost use Rattle.script_records.specs.Layout.{rowsOf, stringsOf};
 ghost use Rattle.script.specs.Rules.{endsHold, recordsHold, rootHolds, allUtf8, allSupported, treeIn, maxDepth};
 use crate::record_rules::is_list;
 use crate::record_rules::record_holds;
-use script_records::decode::is_supported;
+use decode::is_supported;
 use script_records::layout::Layout;
 use script_records::layout::end_at;
 use script_records::layout::row_at;

@@ -1,3 +1,2 @@
 pub mod LayoutLaws
 pub mod Trees
-pub mod DecodeLaws

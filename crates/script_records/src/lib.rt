@@ -1,4 +1,3 @@
-// The records and strings of a script file, and the records decoded.
-pub mod decode;
+// The records and strings of a script file.
 pub mod layout;
 pub mod part;

@@ -14,8 +14,8 @@ use Rattle.hir.specs.declared.EnumeratorTarget.the-variants as target
 use Rattle.script_records.specs.declared.layout.Row.{Row}
 use Rattle.script_records.specs.declared.part.Part.{Part}
 use Rattle.script_records.specs.Layout.{Words, wordsOf, layoutOf, hasTrailer, areasTouch, supported, rowIn, spanAt, childrenOf}
-use Rattle.script_records.specs.Numbers.{words}
-use Rattle.script_records.specs.Decode.{recordOf, constantOf, conditionOf, isOne, plainOf, statementKinds, exprKinds}
+use Rattle.decode.specs.Numbers.{words}
+use Rattle.decode.specs.Decode.{recordOf, constantOf, conditionOf, isOne, plainOf, statementKinds, exprKinds}
 use Rattle.script_records.proofs.Trees.{forest-more}
 use Rattle.script.specs.Forms.{statement, formOf, isList, fits}
 use Rattle.script.specs.Rules.{allBelow, endsHold, recordHolds, rootHolds, recordsHold, rulesHold, parted, maxBytes, treeIn, checkOf}

@@ -14,7 +14,7 @@ use Rattle.script_records.specs.declared.part.Part.{Part}
 use Rattle.script_records.specs.declared.part.Tree.{Tree}
 use Rattle.script_records.specs.Layout.{Words, wordsOf, supported, rowsOf}
 use Rattle.script_records.specs.Parts.{lastTree}
-use Rattle.script_records.specs.Decode.{recordOf, plainOf}
+use Rattle.decode.specs.Decode.{recordOf, plainOf}
 use Rattle.tree.specs.declared.Element.{Element}
 use Rattle.tree.specs.declared.Element.the-variants.{Statement}
 use Rattle.tree.specs.Trees.{nodeOf, kindAt, elementOf}

@@ -17,7 +17,7 @@ use Rattle.script_records.specs.declared.part.Part.{Part}
 use Rattle.script_records.specs.declared.part.Tree.{Tree}
 use Rattle.script_records.specs.Layout.{wordsOf, layoutOf, stringAt, rowsOf, rowIn, spanAt}
 use Rattle.script_records.specs.Parts.{lastTree}
-use Rattle.script_records.specs.Decode.{recordOf}
+use Rattle.decode.specs.Decode.{recordOf}
 use Rattle.script_records.proofs.Trees.{span-le, span-pos, tree-more}
 use Rattle.script_records.proofs.Trees as records
 use Rattle.script.specs.Resolve.{resolved}

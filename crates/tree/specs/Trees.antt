@@ -13,7 +13,7 @@ use Rattle.script_records.specs.declared.part.Part.{Part}
 use Rattle.script_records.specs.declared.part.Tree.{Tree}
 use Rattle.script_records.specs.Layout.{wordsOf, layoutOf, stringAt, rowsOf}
 use Rattle.script_records.specs.Parts.{treesIn, lastTree}
-use Rattle.script_records.specs.Decode.{recordOf}
+use Rattle.decode.specs.Decode.{recordOf}
 use Rattle.script.specs.Resolve.{resolved}
 use Rattle.lowering.specs.Meaning as meaning
 use Rattle.list_slice.specs.File.{recIn}

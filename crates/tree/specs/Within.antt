@@ -22,7 +22,7 @@ use Rattle.hir.specs.declared.Record.the-variants as kind
 use Rattle.script_records.specs.declared.layout.Layout.{Layout}
 use Rattle.script_records.specs.declared.part.Part.{Part}
 use Rattle.script_records.specs.Layout.{wordsOf, layoutOf, stringAt, rowIn, spanAt}
-use Rattle.script_records.specs.Decode.{recordOf}
+use Rattle.decode.specs.Decode.{recordOf}
 use Rattle.script.specs.Rules.{parted, maxBytes}
 use Rattle.lowering.specs.Meaning.{Meaning, nth, kid, list}
 use Rattle.lowering.specs.Statement.{meanings, header}

@@ -53,8 +53,8 @@ shared-slice-read-text c = omega (arith, c .before .before .loop .inv .within, c
 text-requires-2 : tie.Need-text-requires-2 Inv-loop μ-loop
 text-requires-2 c κs = search needs
 
-same-requires : tie.Need-same-requires Inv-loop μ-loop
-same-requires c κs = search needs
+same-bytes-requires : tie.Need-same-bytes-requires Inv-loop μ-loop
+same-bytes-requires c κs = search needs
 
 nearer-requires : tie.Need-nearer-requires Inv-loop μ-loop
 nearer-requires c κs = search needs
@@ -72,7 +72,7 @@ loop-less : tie.Need-loop-less Inv-loop μ-loop
 loop-less c = search-falls (now (c .before .before .before .before .before .before .before .before .before .before .before .before .args .file)) (now (c .before .before .before .before .before .before .before .before .before .before .before .before .args .list)) (c .before .before .before .before .before .before .before .before .before .before .before .before .args .n) (c .before .before .before .before .before .before .before .before .before .before .before .before .args .s) (omega (arith, c .before .before .before .before .before .before .before .before .before .before .before .before .pre .1 .0, c .before .before .before .before .before .before .before .before .before .before .before .before .pre .1 .1 .0)) (c .before .before .before .before .before .before .before .before .before .before .before .before .pre .1 .1 .1) (c .before .before .before .before .before .before .loop .inv) (c .before .before .before .before .before .loop-test .taken) refl refl
 
 loop-again : tie.Need-loop-again Inv-loop μ-loop
-loop-again c = search-goes-on (now (c .before .before .before .before .before .before .before .before .before .before .before .before .args .file)) (now (c .before .before .before .before .before .before .before .before .before .before .before .before .args .list)) (c .before .before .before .before .before .before .before .before .before .before .before .before .args .n) (c .before .before .before .before .before .before .before .before .before .before .before .before .args .s) (omega (arith, c .before .before .before .before .before .before .before .before .before .before .before .before .pre .1 .0, c .before .before .before .before .before .before .before .before .before .before .before .before .pre .1 .1 .0)) (c .before .before .before .before .before .before .before .before .before .before .before .before .pre .1 .1 .1) (c .before .before .before .before .before .before .loop .inv) (c .before .before .before .before .before .loop-test .taken) refl (rw (c .before .before .before .before .before .before .before .before .before .text .ensures, c .before .before .before .text2 .ensures) at (c .before .before .same .ensures)) (c .before .nearer .ensures) refl
+loop-again c = search-goes-on (now (c .before .before .before .before .before .before .before .before .before .before .before .before .args .file)) (now (c .before .before .before .before .before .before .before .before .before .before .before .before .args .list)) (c .before .before .before .before .before .before .before .before .before .before .before .before .args .n) (c .before .before .before .before .before .before .before .before .before .before .before .before .args .s) (omega (arith, c .before .before .before .before .before .before .before .before .before .before .before .before .pre .1 .0, c .before .before .before .before .before .before .before .before .before .before .before .before .pre .1 .1 .0)) (c .before .before .before .before .before .before .before .before .before .before .before .before .pre .1 .1 .1) (c .before .before .before .before .before .before .loop .inv) (c .before .before .before .before .before .loop-test .taken) refl (rw (c .before .before .before .before .before .before .before .before .before .text .ensures, c .before .before .before .text2 .ensures) at (c .before .before .same-bytes .ensures)) (c .before .nearer .ensures) refl
 
 returns : tie.Need-returns Inv-loop μ-loop
 returns c = search-ends (now (c .before .before .before .before .before .before .before .args .file)) (now (c .before .before .before .before .before .before .before .args .list)) (c .before .before .before .before .before .before .before .args .n) (c .before .before .before .before .before .before .before .args .s) (omega (arith, c .before .before .before .before .before .before .before .pre .1 .0, c .before .before .before .before .before .before .before .pre .1 .1 .0)) (c .before .loop .inv) (c .loop-test .left)
@@ -96,7 +96,7 @@ find-spec =
     mul-text
     shared-slice-read-text
     text-requires-2
-    same-requires
+    same-bytes-requires
     nearer-requires
     add-next
     mul-next-2

@@ -10,7 +10,7 @@ use denote.Ref.{now}
 use lib.ListN.{length, length-take, length-drop}
 use Rattle.pcode.specs.declared.Op.the-variants.{GetMember}
 use Rattle.script_records.specs.Layout.{layoutOf, stringAt}
-use Rattle.script_records.specs.Numbers.{unsigned}
+use Rattle.decode.specs.Numbers.{unsigned}
 use Rattle.script.specs.Resolve.{resolved, targetOver}
 use Rattle.lowering.specs.Meaning.{present}
 use Rattle.lowering.specs.Statement.{no-loop}
