@@ -324,6 +324,14 @@ module _ {F : List ℕ} {l : Layout} {w0 x0 : List ℕ} {p0 : Part} {b0 : CodeBu
   pub args-less : (left .n ≡ 0 → ⊥) → {before : Part} → before ≡ nodeOf F l left .before → before .n < left .n
   args-less z e = rw e (omega (arith, is-node F l left (i .within) refl .apart))
 
+  -- after a refusal nothing more is done
+  pub args-stopped : (b .refused ≡ 0 → ⊥) → Does F (gen-arguments (meaningsAt F p0)) b0 w0 tt b w
+  args-stopped h = record {
+    same = rw (after-then, ← i .same, ← stays {F = F} {m = exprs-reversed (meaningsAt F left)} {a = tt {0}} h (i .fine) .same) (stays {F = F} h (i .fine) .same);
+    fine = i .fine;
+    named = i .named;
+  }
+
   pub args-done : left .n ≡ 0 → (n : ℕ) → n ≡ width (trees F p0) → {r : CodeBuilder} {w′ : List ℕ} → Does F (push (Integer n)) b w tt r w′ → Does F (gen-arguments (meaningsAt F p0)) b0 w0 tt r w′
   args-done z n e {r} {w′} o = record {
     same = rw (width-law (trees F p0), ← e, after-then, ← i .same, none-at F left z, after-done (held F (tt {0}) b w), o .same);

@@ -979,6 +979,9 @@ fn args(
     let mut left = p;
     let mut cur = b;
     while left.n != 0 {
+        if cur.refused != 0 {
+            return cur;
+        }
         cur = gen_expr(file, l, left, cur, list, scratch, false);
         let before = rest_of(file, l, left);
         left = before;

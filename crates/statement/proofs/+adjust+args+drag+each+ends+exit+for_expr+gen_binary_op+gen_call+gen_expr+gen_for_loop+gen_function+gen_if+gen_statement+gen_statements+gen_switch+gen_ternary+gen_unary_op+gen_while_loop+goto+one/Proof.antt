@@ -27,7 +27,7 @@ use Rattle.builder.proofs.Body.{begun-fine, begun-named, ready, function-done}
 use Rattle.access.proofs.Texts.{text-is}
 use Rattle.rows.specs.Rows.{loopOf}
 use Rattle.statement.proofs.Laws.{rec-is, element-at, expr-at, case-at, field-at, no-expr, statement-at, no-statement, access-at, literal-of, none-at, labels-counted, cases-counted, labels-less, default-less, switching, no-labels, some-labels, function-at, function-size, literal-named, field-live, number-less, rank-least, rank-most, rank-kept}
-use Rattle.statement.proofs.Lists.{PushInv, push-holds, push-inside, push-rest, rest-less, PopInv, pop-holds, pop-top, pop-pos, pop-few, pop-again, pop-stopped, pop-done, element-few, ArgsInv, args-holds, args-again, args-less, args-done}
+use Rattle.statement.proofs.Lists.{PushInv, push-holds, push-inside, push-rest, rest-less, PopInv, pop-holds, pop-top, pop-pos, pop-few, pop-again, pop-stopped, pop-done, element-few, ArgsInv, args-holds, args-again, args-less, args-stopped, args-done}
 use Rattle.statement.proofs.Arms.{statements-arm, unhoisted-arm, field-arm, test-arm, block-arm, local-arm, local-none-arm, no-values-arm, values-arm, switch-arm, switch-cases-arm, no-tests-arm, tests-arm, while-arm, for-in-arm, for-loop-arm, ends-arm, if-both-arm, if-one-arm, void-arm, trivial-arm, trivial-not-arm, trivial-assign-arm, assign-arm, and-arm, or-arm, bit-not-arm, not-arm, minus-arm, adjust-arm, kept-arm, delete-arm, ternary-arm, array-arm, object-arm, copy-arm, goto-label-arm, goto-frame-arm, goto-arm, drag-arm, drag-within-arm, get-property-arm, set-property-arm, call-arm, new-arm, direct-arm, object-access-arm}
 use mir.ValLaws.{toZ-ofZ}
 use mir.Syntax.{w32}
@@ -473,29 +473,38 @@ args-calls t = (gen-expr-below t, gen-expr.Post, rest-of-reads.Asked, rest-of-re
 args-loop-holds : (t : ℕ) → args-lts.Need-loop-holds (args-calls t) (args-at t) args.Post args-Inv-loop args-μ-loop
 args-loop-holds t c = args-holds _ _ _ _ _ _ ((c .before .before .before .pre .1 .0) .within) ((c .before .before .before .pre .1 .0) .fine) ((c .before .before .before .pre .1 .0) .fits)
 
+args-same-length : (t : ℕ) → args-lts.Need-same-length (args-calls t) (args-at t) args.Post args-Inv-loop args-μ-loop
+args-same-length t c = c .before .before .before .before .loop .inv .list
+
+args-same-length-2 : (t : ℕ) → args-lts.Need-same-length-2 (args-calls t) (args-at t) args.Post args-Inv-loop args-μ-loop
+args-same-length-2 t c = c .before .before .before .before .loop .inv .scratch
+
+args-returns : (t : ℕ) → args-lts.Need-returns (args-calls t) (args-at t) args.Post args-Inv-loop args-μ-loop
+args-returns t c = args-stopped (c .before .before .before .before .loop .inv) (c .if2 .taken)
+
 args-gen-expr-requires : (t : ℕ) → args-lts.Need-gen-expr-requires (args-calls t) (args-at t) args.Post args-Inv-loop args-μ-loop
-args-gen-expr-requires t c κs = (omega (arith, c .before .before .before .before .before .before .before .before .pre .0, c .before .before .before .before .loop .inv .fewer), record { within = c .before .before .before .before .loop .inv .within; fits = omega (arith, c .before .before .before .before .loop .inv .fewer, c .before .before .before .before .loop .inv .room, c .before .before .before .before .loop .inv .scratch); fine = (c .before .before .before .before .loop .inv .fine); named = (c .before .before .before .before .loop .inv .named ((c .before .before .before .before .before .before .before .before .pre .1 .0) .named)) })
+args-gen-expr-requires t c κs = (omega (arith, c .before .before .before .before .before .before .before .before .before .before .pre .0, c .before .before .before .before .before .before .loop .inv .fewer), record { within = c .before .before .before .before .before .before .loop .inv .within; fits = omega (arith, c .before .before .before .before .before .before .loop .inv .fewer, c .before .before .before .before .before .before .loop .inv .room, c .before .before .before .before .before .before .loop .inv .scratch); fine = (c .before .before .before .before .before .before .loop .inv .fine); named = (c .before .before .before .before .before .before .loop .inv .named ((c .before .before .before .before .before .before .before .before .before .before .pre .1 .0) .named)) })
 
 args-rest-of-requires : (t : ℕ) → args-lts.Need-rest-of-requires (args-calls t) (args-at t) args.Post args-Inv-loop args-μ-loop
 args-rest-of-requires t c κs = tt
 
 args-loop-less : (t : ℕ) → args-lts.Need-loop-less (args-calls t) (args-at t) args.Post args-Inv-loop args-μ-loop
-args-loop-less t c = args-less (c .before .before .before .before .before .before .before .before .before .before .loop .inv) (c .before .before .before .before .before .before .before .before .if1 .taken) (c .rest-of .ensures)
+args-loop-less t c = args-less (c .before .before .before .before .before .before .before .before .before .before .before .before .loop .inv) (c .before .before .before .before .before .before .before .before .before .before .if1 .taken) (c .rest-of .ensures)
 
 args-loop-again : (t : ℕ) → args-lts.Need-loop-again (args-calls t) (args-at t) args.Post args-Inv-loop args-μ-loop
-args-loop-again t c = args-again (c .before .before .before .before .before .before .before .before .before .before .loop .inv) (c .before .before .before .before .before .before .before .before .if1 .taken) (c .rest-of .ensures) (c .before .before .before .before .before .gen-expr .ensures) (c .before .before .before .before .before .gen-expr .kept .1 .1 .1 .1 .0) (c .before .before .before .before .before .gen-expr .kept .1 .1 .1 .1 .1 .0)
+args-loop-again t c = args-again (c .before .before .before .before .before .before .before .before .before .before .before .before .loop .inv) (c .before .before .before .before .before .before .before .before .before .before .if1 .taken) (c .rest-of .ensures) (c .before .before .before .before .before .gen-expr .ensures) (c .before .before .before .before .before .gen-expr .kept .1 .1 .1 .1 .0) (c .before .before .before .before .before .gen-expr .kept .1 .1 .1 .1 .1 .0)
 
 args-push-count-requires : (t : ℕ) → args-lts.Need-push-count-requires (args-calls t) (args-at t) args.Post args-Inv-loop args-μ-loop
 args-push-count-requires t c κs = (c .before .before .before .loop .inv .fine, rw (c .before .before .before .before .before .before .before .pre .1 .1) (omega (arith, width-less (now (c .before .before .before .before .before .before .before .args .file)) (c .before .before .before .before .before .before .before .args .p), (c .before .before .before .before .before .before .before .pre .1 .0) .within .inside, (c .before .before .before .before .before .before .before .pre .1 .0) .within .known, (c .before .before .before .before .before .before .before .pre .1 .0) .within .sound .few)))
 
-args-same-length : (t : ℕ) → args-lts.Need-same-length (args-calls t) (args-at t) args.Post args-Inv-loop args-μ-loop
-args-same-length t c = c .before .before .push-count .kept .0 ∙ c .before .before .before .before .before .before .loop .inv .list
+args-same-length-3 : (t : ℕ) → args-lts.Need-same-length-3 (args-calls t) (args-at t) args.Post args-Inv-loop args-μ-loop
+args-same-length-3 t c = c .before .before .push-count .kept .0 ∙ c .before .before .before .before .before .before .loop .inv .list
 
-args-same-length-2 : (t : ℕ) → args-lts.Need-same-length-2 (args-calls t) (args-at t) args.Post args-Inv-loop args-μ-loop
-args-same-length-2 t c = c .before .before .before .before .before .before .loop .inv .scratch
+args-same-length-4 : (t : ℕ) → args-lts.Need-same-length-4 (args-calls t) (args-at t) args.Post args-Inv-loop args-μ-loop
+args-same-length-4 t c = c .before .before .before .before .before .before .loop .inv .scratch
 
-args-returns : (t : ℕ) → args-lts.Need-returns (args-calls t) (args-at t) args.Post args-Inv-loop args-μ-loop
-args-returns t c = args-done (c .before .before .before .before .before .before .loop .inv) (c .before .before .before .before .if1 .left) (c .before .before .before .before .before .before .before .before .before .before .args .n) (c .before .before .before .before .before .before .before .before .before .before .pre .1 .1) (c .before .before .push-count .ensures (now (c .before .before .before .before .before .before .before .before .before .before .args .file)))
+args-returns-2 : (t : ℕ) → args-lts.Need-returns-2 (args-calls t) (args-at t) args.Post args-Inv-loop args-μ-loop
+args-returns-2 t c = args-done (c .before .before .before .before .before .before .loop .inv) (c .before .before .before .before .if1 .left) (c .before .before .before .before .before .before .before .before .before .before .args .n) (c .before .before .before .before .before .before .before .before .before .before .pre .1 .1) (c .before .before .push-count .ensures (now (c .before .before .before .before .before .before .before .before .before .before .args .file)))
 
 abbrev drag-calls : ℕ → drag-lts.Claims
 drag-calls t = (kid-at-reads.Asked, kid-at-reads.Learnt, list-at-reads.Asked, list-at-reads.Learnt, bit-of-reads.Asked, bit-of-reads.Learnt, push-reads.Asked, push-reads.Learnt, gen-expr-below t, gen-expr.Post, action-down-reads.Asked, action-down-reads.Learnt, no-loop-reads.Asked, no-loop-reads.Learnt, each-below t, each.Post)
@@ -2639,14 +2648,17 @@ pub +adjust+args+drag+each+ends+exit+for-expr+gen-binary-op+gen-call+gen-expr+ge
     args-Inv-loop
     args-μ-loop
     (args-loop-holds t)
+    (args-same-length t)
+    (args-same-length-2 t)
+    (args-returns t)
     (args-gen-expr-requires t)
     (args-rest-of-requires t)
     (args-loop-less t)
     (args-loop-again t)
     (args-push-count-requires t)
-    (args-same-length t)
-    (args-same-length-2 t)
-    (args-returns t))
+    (args-same-length-3 t)
+    (args-same-length-4 t)
+    (args-returns-2 t))
     (λ t. drag-lts.spec (drag-calls t)
     (drag-at t)
     drag.Post
