@@ -86,6 +86,7 @@ use pcode::Op;
 use pcode::PushValue;
 use rows::Each;
 use rows::Loop;
+use rows::ends::ends_of;
 use rows::loop_to;
 use rows::no_loop;
 use rows::with_exit;
@@ -120,8 +121,7 @@ pub fn gen_statements(
     each(file, l, p, b1, list, scratch, Each::Unhoisted, lp, 0, 0)
 }
 
-// Each tree of a row, the first first. Where each ends is kept in `scratch`, the last lowest. `seen` and `cases` count the trees before with a label,
-// and the cases among them.
+// Each tree of a row, the first first. `seen` and `cases` count the trees before with a label, and the cases among them.
 fn each(
     file: &[u8],
     l: Layout,
@@ -138,25 +138,15 @@ fn each(
     requires { ⌜ first + p .n < 4294967296 ⌝ }
     ensures { λ r. ⌜ Does (now (file .entry)) (eachOf what (loopOf lp) first default (meaningsAt (now (file .entry)) p)) b (now (list .entry)) tt r (now (list .exit)) ⌝ }
 {
-    let last = p.end;
-    let lo = p.end - p.n;
     if b.refused != 0 {
         return b;
     }
-    let mut left = p;
-    let mut top: usize = 0;
-    while left.n != 0 {
-        let end = left.end;
-        scratch[top] = end;
-        top += 1;
-        let before = rest_of(file, l, left);
-        left = before;
-    }
+    let lo = p.end - p.n;
+    let mut top = ends_of(file, l, p, scratch, what, lp);
     let mut cur = b;
-    let mut done = lo;
     let mut seen: u32 = 0;
     let mut cases: u32 = 0;
-    while done != last {
+    while top != 0 {
         if cur.refused != 0 {
             return cur;
         }
@@ -180,7 +170,6 @@ fn each(
         let e = element_at(file, l, part);
         seen = seen + is_labelled(e);
         cases = cases + is_case(e);
-        done = end;
     }
     cur
 }

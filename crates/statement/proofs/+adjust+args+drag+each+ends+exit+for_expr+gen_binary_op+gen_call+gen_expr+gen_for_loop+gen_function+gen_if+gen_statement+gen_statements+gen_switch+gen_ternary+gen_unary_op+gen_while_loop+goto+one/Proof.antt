@@ -2,7 +2,7 @@
 use borrow.Author.Needs.{needs}
 use borrow.Author.Tests.{not-true, lt-ltb}
 use native.Mathlib.Omega.{arith}
-use Prim.Native.Nat.{_+_, _*_, _-_}
+use Prim.Native.Nat.{_+_, _*_, _-_, _≤_}
 use mathlib.Core.Path.{_≡_, refl, sym, ap, _∙_}
 use mathlib.Core.Bool.{false, cond}
 use mathlib.Core.List.{List}
@@ -26,8 +26,9 @@ use Rattle.builder.specs.Labels.{labels-of}
 use Rattle.builder.proofs.Body.{begun-fine, begun-named, ready, function-done}
 use Rattle.access.proofs.Texts.{text-is}
 use Rattle.rows.specs.Rows.{loopOf}
+use Rattle.rows.specs.Kept.{Kept}
 use Rattle.statement.proofs.Laws.{rec-is, element-at, expr-at, case-at, field-at, no-expr, statement-at, no-statement, access-at, literal-of, none-at, labels-counted, cases-counted, labels-less, default-less, switching, no-labels, some-labels, function-at, function-size, literal-named, field-live, number-less, rank-least, rank-most, rank-kept}
-use Rattle.statement.proofs.Lists.{PushInv, push-holds, push-inside, push-rest, rest-less, PopInv, pop-holds, pop-top, pop-pos, pop-few, pop-again, pop-stopped, pop-done, element-few, ArgsInv, args-holds, args-again, args-less, args-stopped, args-done}
+use Rattle.statement.proofs.Lists.{PopInv, pop-holds, pop-top, pop-inside, pop-fits, pop-below, pop-few, pop-again, pop-stopped, pop-done, element-few, ArgsInv, args-holds, args-again, args-less, args-stopped, args-done}
 use Rattle.statement.proofs.Arms.{statements-arm, unhoisted-arm, field-arm, test-arm, block-arm, local-arm, local-none-arm, no-values-arm, values-arm, switch-arm, switch-cases-arm, no-tests-arm, tests-arm, while-arm, for-in-arm, for-loop-arm, ends-arm, if-both-arm, if-one-arm, void-arm, trivial-arm, trivial-not-arm, trivial-assign-arm, assign-arm, and-arm, or-arm, bit-not-arm, not-arm, minus-arm, adjust-arm, kept-arm, delete-arm, ternary-arm, array-arm, object-arm, copy-arm, goto-label-arm, goto-frame-arm, goto-arm, drag-arm, drag-within-arm, get-property-arm, set-property-arm, call-arm, new-arm, direct-arm, object-access-arm}
 use mir.ValLaws.{toZ-ofZ}
 use mir.Syntax.{w32}
@@ -147,6 +148,7 @@ use Rattle.operators.proofs.plan_of.Reads as plan-of-reads
 use Rattle.operators.proofs.shape.is_present.Reads as is-present-reads
 use Rattle.operators.proofs.shape.literal_of.Reads as literal-of-reads
 use Rattle.operators.proofs.shape.shape_of.Reads as shape-of-reads
+use Rattle.rows.proofs.ends.ends_of.Reads as ends-of-reads
 use Rattle.rows.proofs.loop_to.Reads as loop-to-reads
 use Rattle.rows.proofs.no_loop.Reads as no-loop-reads
 use Rattle.rows.proofs.with_exit.Reads as with-exit-reads
@@ -567,117 +569,92 @@ drag-returns-2 : (t : ℕ) → drag-lts.Need-returns-2 (drag-calls t) (drag-at t
 drag-returns-2 t c = drag-within-arm (c .before .before .before .before .before .before .before .before .before .before .before .before .before .before .before .before .before .before .before .before .before .before .before .before .before .before .before .before .before .before .before .before .before .before .before .args .l) (c .before .before .before .before .before .before .before .before .before .before .before .before .before .before .before .before .before .before .before .before .before .before .before .before .before .before .before .before .before .before .before .before .before .before .before .args .p) (loopOf (c .before .before .before .before .before .before .before .before .before .before .before .before .before .before .before .before .before .before .before .before .before .before .before .before .before .before .no-loop .result)) (c .before .before .before .before .before .before .before .before .before .before .before .before .before .before .before .before .before .before .before .before .before .before .before .before .before .before .before .before .before .before .before .before .before .before .before .args .lock) (c .before .before .before .before .before .before .before .before .before .before .before .before .before .before .before .before .before .before .before .before .before .before .before .before .before .before .before .before .before .before .before .kid-at .ensures) (c .before .before .before .before .before .before .before .before .before .before .before .before .before .before .before .before .before .before .before .before .before .before .before .before .before .before .before .before .before .before .list-at .ensures) (c .before .before .before .before .before .before .before .before .before .before .before .before .before .before .before .before .before .before .before .before .before .before .before .before .before .before .before .if1 .left) (c .before .before .before .before .before .before .before .before .before .before .before .before .before .before .before .before .before .before .before .before .before .before .before .each .ensures) (c .before .before .before .before .before .before .before .before .before .before .before .before .before .before .before .before .before .push3 .ensures (now (c .before .before .before .before .before .before .before .before .before .before .before .before .before .before .before .before .before .before .before .before .before .before .before .before .before .before .before .before .before .before .before .before .before .before .before .args .file)) tt) (rw (toZ-ofZ w32 _ (record { sfits = c .before .before .before .before .before .before .before .before .before .before .before .before .before .before .before .before .before .before .before .before .before .before .before .before .before .before .before .before .before .bit-of .ok }), c .before .before .before .before .before .before .before .before .before .before .before .before .before .before .before .before .before .before .before .before .before .before .before .before .before .before .before .before .before .bit-of .ensures) at (c .before .before .before .before .before .before .before .before .before .before .before .before .before .push4 .ensures (now (c .before .before .before .before .before .before .before .before .before .before .before .before .before .before .before .before .before .before .before .before .before .before .before .before .before .before .before .before .before .before .before .before .before .before .before .args .file)) tt)) (c .before .before .before .before .before .before .before .before .gen-expr2 .ensures) (c .before .before .action-down2 .ensures (now (c .before .before .before .before .before .before .before .before .before .before .before .before .before .before .before .before .before .before .before .before .before .before .before .before .before .before .before .before .before .before .before .before .before .before .before .args .file)))
 
 abbrev each-Inv-loop : each-lts.InvT-loop
-each-Inv-loop file l b list scratch₀ what lp first default last lo left₀ top₀ scratch left top = PushInv file l scratch₀ last lo left₀ scratch left top
+each-Inv-loop file l list₀ scratch₀ what lp first default lo top₀ cur₀ seen₀ cases₀ list scratch top cur seen cases =
+    (last : ℕ) → last - lo ≤ length scratch₀ → Kept file l what (loopOf lp) lo scratch₀ top₀ lo last → PopInv file l what (loopOf lp) first default list₀ scratch₀ last lo cur₀ list scratch top cur seen cases
 
 abbrev each-μ-loop : each-lts.MeasureT-loop
-each-μ-loop file l b list scratch₀ what lp first default last lo left₀ top₀ scratch left top = left .n
-
-abbrev each-Inv-loop2 : each-lts.InvT-loop2
-each-Inv-loop2 file l list₀ scratch₀ what lp first default last lo top₀ cur₀ done₀ seen₀ cases₀ list scratch top cur done seen cases =
-    PopInv file l what (loopOf lp) first default list₀ scratch₀ last lo cur₀ list scratch top cur done seen cases
-
-abbrev each-μ-loop2 : each-lts.MeasureT-loop2
-each-μ-loop2 file l list₀ scratch₀ what lp first default last lo top₀ cur₀ done₀ seen₀ cases₀ list scratch top cur done seen cases =
-    last - done
+each-μ-loop file l list₀ scratch₀ what lp first default lo top₀ cur₀ seen₀ cases₀ list scratch top cur seen cases = top
 
 abbrev each-calls : ℕ → each-lts.Claims
-each-calls t = (rest-of-reads.Asked, rest-of-reads.Learnt, one-below t, one.Post, element-at-reads.Asked, element-at-reads.Learnt, is-labelled-reads.Asked, is-labelled-reads.Learnt, is-case-reads.Asked, is-case-reads.Learnt)
+each-calls t = (ends-of-reads.Asked, ends-of-reads.Learnt, one-below t, one.Post, element-at-reads.Asked, element-at-reads.Learnt, is-labelled-reads.Asked, is-labelled-reads.Learnt, is-case-reads.Asked, is-case-reads.Learnt)
 
-each-sub-lo : (t : ℕ) → each-lts.Need-sub-lo (each-calls t) (each-at t) each.Post each-Inv-loop each-μ-loop each-Inv-loop2 each-μ-loop2
-each-sub-lo t c = omega (arith, (c .before .before .before .before .pre .1 .0) .within .inside)
+each-returns : (t : ℕ) → each-lts.Need-returns (each-calls t) (each-at t) each.Post each-Inv-loop each-μ-loop
+each-returns t c = stays (c .if1 .taken) ((c .before .before .before .before .before .pre .1 .0) .fine)
 
-each-returns : (t : ℕ) → each-lts.Need-returns (each-calls t) (each-at t) each.Post each-Inv-loop each-μ-loop each-Inv-loop2 each-μ-loop2
-each-returns t c = stays (c .if1 .taken) ((c .before .before .before .before .before .before .pre .1 .0) .fine)
+each-sub-lo : (t : ℕ) → each-lts.Need-sub-lo (each-calls t) (each-at t) each.Post each-Inv-loop each-μ-loop
+each-sub-lo t c = omega (arith, (c .before .before .before .before .before .before .pre .1 .0) .within .inside)
 
-each-loop-holds : (t : ℕ) → each-lts.Need-loop-holds (each-calls t) (each-at t) each.Post each-Inv-loop each-μ-loop each-Inv-loop2 each-μ-loop2
-each-loop-holds t c = push-holds _ _ _ _ ((c .before .before .before .before .before .before .pre .1 .0) .within) ((c .before .before .before .before .before .before .pre .1 .0) .fits)
+each-ends-of-requires : (t : ℕ) → each-lts.Need-ends-of-requires (each-calls t) (each-at t) each.Post each-Inv-loop each-μ-loop
+each-ends-of-requires t c κs = ((c .before .before .before .before .before .before .before .pre .1 .0) .within, (c .before .before .before .before .before .before .before .pre .1 .0) .fits)
 
-each-mul-scratch : (t : ℕ) → each-lts.Need-mul-scratch (each-calls t) (each-at t) each.Post each-Inv-loop each-μ-loop each-Inv-loop2 each-μ-loop2
-each-mul-scratch t c = search needs
+each-loop-holds : (t : ℕ) → each-lts.Need-loop-holds (each-calls t) (each-at t) each.Post each-Inv-loop each-μ-loop
+each-loop-holds t c = λ last r k. pop-holds (c .before .before .before .before .before .before .before .before .before .before .args .what) (loopOf (c .before .before .before .before .before .before .before .before .before .before .args .lp)) (c .before .before .before .before .before .before .before .before .before .before .args .first) (c .before .before .before .before .before .before .before .before .before .before .args .default) _ last _ _ _ _ ((c .before .before .before .before .before .before .before .before .before .before .pre .1 .0) .fine) r k
 
-each-slice-write-scratch : (t : ℕ) → each-lts.Need-slice-write-scratch (each-calls t) (each-at t) each.Post each-Inv-loop each-μ-loop each-Inv-loop2 each-μ-loop2
-each-slice-write-scratch t c = push-inside (c .before .before .loop .inv) (c .if2 .taken)
+each-same-length : (t : ℕ) → each-lts.Need-same-length (each-calls t) (each-at t) each.Post each-Inv-loop each-μ-loop
+each-same-length t c = (c .before .before .before .loop .inv (c .before .before .before .before .before .before .before .before .before .before .before .before .before .before .args .p .end) (omega (arith, (c .before .before .before .before .before .before .before .before .before .before .before .before .before .before .pre .1 .0) .fits, (c .before .before .before .before .before .before .before .before .before .before .before .before .before .before .pre .1 .0) .within .inside, c .before .before .before .before .before .before .ends-of .kept .1 .1 .1 .0)) (c .before .before .before .before .before .before .ends-of .ensures)) .list
 
-each-add-top : (t : ℕ) → each-lts.Need-add-top (each-calls t) (each-at t) each.Post each-Inv-loop each-μ-loop each-Inv-loop2 each-μ-loop2
-each-add-top t c = omega (arith, c .before .before .loop .inv .less, (c .before .before .before .before .before .before .before .before .before .pre .1 .0) .within .inside, (c .before .before .before .before .before .before .before .before .before .pre .1 .0) .within .known, (c .before .before .before .before .before .before .before .before .before .pre .1 .0) .within .sound .few)
+each-same-length-2 : (t : ℕ) → each-lts.Need-same-length-2 (each-calls t) (each-at t) each.Post each-Inv-loop each-μ-loop
+each-same-length-2 t c = (c .before .before .before .loop .inv (c .before .before .before .before .before .before .before .before .before .before .before .before .before .before .args .p .end) (omega (arith, (c .before .before .before .before .before .before .before .before .before .before .before .before .before .before .pre .1 .0) .fits, (c .before .before .before .before .before .before .before .before .before .before .before .before .before .before .pre .1 .0) .within .inside, c .before .before .before .before .before .before .ends-of .kept .1 .1 .1 .0)) (c .before .before .before .before .before .before .ends-of .ensures)) .scratch ∙ c .before .before .before .before .before .before .ends-of .kept .1 .1 .1 .0
 
-each-rest-of-requires : (t : ℕ) → each-lts.Need-rest-of-requires (each-calls t) (each-at t) each.Post each-Inv-loop each-μ-loop each-Inv-loop2 each-μ-loop2
-each-rest-of-requires t c κs = tt
+each-returns-2 : (t : ℕ) → each-lts.Need-returns-2 (each-calls t) (each-at t) each.Post each-Inv-loop each-μ-loop
+each-returns-2 t c = pop-stopped (c .before .before .before .before .before .before .before .before .before .before .before .before .before .before .args .what) (loopOf (c .before .before .before .before .before .before .before .before .before .before .before .before .before .before .args .lp)) (c .before .before .before .before .before .before .before .before .before .before .before .before .before .before .args .first) (c .before .before .before .before .before .before .before .before .before .before .before .before .before .before .args .default) (c .before .before .before .loop .inv (c .before .before .before .before .before .before .before .before .before .before .before .before .before .before .args .p .end) (omega (arith, (c .before .before .before .before .before .before .before .before .before .before .before .before .before .before .pre .1 .0) .fits, (c .before .before .before .before .before .before .before .before .before .before .before .before .before .before .pre .1 .0) .within .inside, c .before .before .before .before .before .before .ends-of .kept .1 .1 .1 .0)) (c .before .before .before .before .before .before .ends-of .ensures)) (c .if2 .taken) (c .before .before .before .before .before .before .before .before .before .before .before .before .before .before .args .p) refl (omega (arith, (c .before .before .before .before .before .before .before .before .before .before .before .before .before .before .pre .1 .0) .within .inside))
 
-each-loop-less : (t : ℕ) → each-lts.Need-loop-less (each-calls t) (each-at t) each.Post each-Inv-loop each-μ-loop each-Inv-loop2 each-μ-loop2
-each-loop-less t c = rest-less (c .before .before .before .loop .inv) (c .before .if2 .taken) (c .rest-of .ensures)
+each-sub-top : (t : ℕ) → each-lts.Need-sub-top (each-calls t) (each-at t) each.Post each-Inv-loop each-μ-loop
+each-sub-top t c = omega (arith, c .before .before .loop-test .taken)
 
-each-loop-again : (t : ℕ) → each-lts.Need-loop-again (each-calls t) (each-at t) each.Post each-Inv-loop each-μ-loop each-Inv-loop2 each-μ-loop2
-each-loop-again t c = push-rest (c .before .before .before .loop .inv) (c .before .if2 .taken) (c .rest-of .ensures)
+each-mul-end : (t : ℕ) → each-lts.Need-mul-end (each-calls t) (each-at t) each.Post each-Inv-loop each-μ-loop
+each-mul-end t c = omega (arith, (pop-top (c .before .before .before .before .before .before .before .before .before .before .before .before .before .before .args .what) (loopOf (c .before .before .before .before .before .before .before .before .before .before .before .before .before .before .args .lp)) (c .before .before .before .before .before .before .before .before .before .before .before .before .before .before .args .first) (c .before .before .before .before .before .before .before .before .before .before .before .before .before .before .args .default) (c .before .before .before .loop .inv (c .before .before .before .before .before .before .before .before .before .before .before .before .before .before .args .p .end) (omega (arith, (c .before .before .before .before .before .before .before .before .before .before .before .before .before .before .pre .1 .0) .fits, (c .before .before .before .before .before .before .before .before .before .before .before .before .before .before .pre .1 .0) .within .inside, c .before .before .before .before .before .before .ends-of .kept .1 .1 .1 .0)) (c .before .before .before .before .before .before .ends-of .ensures)) (c .before .before .loop-test .taken)) .room, (c .before .before .before .before .before .before .before .before .before .before .before .before .before .before .pre .1 .0) .within .inside, (c .before .before .before .before .before .before .before .before .before .before .before .before .before .before .pre .1 .0) .within .known, (c .before .before .before .before .before .before .before .before .before .before .before .before .before .before .pre .1 .0) .within .sound .few)
 
-each-loop2-holds : (t : ℕ) → each-lts.Need-loop2-holds (each-calls t) (each-at t) each.Post each-Inv-loop each-μ-loop each-Inv-loop2 each-μ-loop2
-each-loop2-holds t c = pop-holds (c .before .before .before .before .before .before .before .before .before .args .what) (loopOf (c .before .before .before .before .before .before .before .before .before .args .lp)) (c .before .before .before .before .before .before .before .before .before .args .first) (c .before .before .before .before .before .before .before .before .before .args .default) (c .before .before .loop .inv) _ _ ((c .before .before .before .before .before .before .before .before .before .pre .1 .0) .fine) (c .if2 .left)
+each-slice-read-end : (t : ℕ) → each-lts.Need-slice-read-end (each-calls t) (each-at t) each.Post each-Inv-loop each-μ-loop
+each-slice-read-end t c = pop-inside (c .before .before .before .before .before .before .before .before .before .before .before .before .before .before .before .args .what) (loopOf (c .before .before .before .before .before .before .before .before .before .before .before .before .before .before .before .args .lp)) (c .before .before .before .before .before .before .before .before .before .before .before .before .before .before .before .args .first) (c .before .before .before .before .before .before .before .before .before .before .before .before .before .before .before .args .default) (c .before .before .before .before .loop .inv (c .before .before .before .before .before .before .before .before .before .before .before .before .before .before .before .args .p .end) (omega (arith, (c .before .before .before .before .before .before .before .before .before .before .before .before .before .before .before .pre .1 .0) .fits, (c .before .before .before .before .before .before .before .before .before .before .before .before .before .before .before .pre .1 .0) .within .inside, c .before .before .before .before .before .before .before .ends-of .kept .1 .1 .1 .0)) (c .before .before .before .before .before .before .before .ends-of .ensures)) (c .before .before .before .loop-test .taken)
 
-each-same-length : (t : ℕ) → each-lts.Need-same-length (each-calls t) (each-at t) each.Post each-Inv-loop each-μ-loop each-Inv-loop2 each-μ-loop2
-each-same-length t c = c .before .before .before .loop2 .inv .list
+each-sub-one : (t : ℕ) → each-lts.Need-sub-one (each-calls t) (each-at t) each.Post each-Inv-loop each-μ-loop
+each-sub-one t c = let p = pop-top (c .before .before .before .before .before .before .before .before .before .before .before .before .before .before .before .args .what) (loopOf (c .before .before .before .before .before .before .before .before .before .before .before .before .before .before .before .args .lp)) (c .before .before .before .before .before .before .before .before .before .before .before .before .before .before .before .args .first) (c .before .before .before .before .before .before .before .before .before .before .before .before .before .before .before .args .default) (c .before .before .before .before .loop .inv (c .before .before .before .before .before .before .before .before .before .before .before .before .before .before .before .args .p .end) (omega (arith, (c .before .before .before .before .before .before .before .before .before .before .before .before .before .before .before .pre .1 .0) .fits, (c .before .before .before .before .before .before .before .before .before .before .before .before .before .before .before .pre .1 .0) .within .inside, c .before .before .before .before .before .before .before .ends-of .kept .1 .1 .1 .0)) (c .before .before .before .before .before .before .before .ends-of .ensures)) (c .before .before .before .loop-test .taken) in omega (arith, p .up, p .idle .up, (c .before .before .before .before .loop .inv (c .before .before .before .before .before .before .before .before .before .before .before .before .before .before .before .args .p .end) (omega (arith, (c .before .before .before .before .before .before .before .before .before .before .before .before .before .before .before .pre .1 .0) .fits, (c .before .before .before .before .before .before .before .before .before .before .before .before .before .before .before .pre .1 .0) .within .inside, c .before .before .before .before .before .before .before .ends-of .kept .1 .1 .1 .0)) (c .before .before .before .before .before .before .before .ends-of .ensures)) .low)
 
-each-same-length-2 : (t : ℕ) → each-lts.Need-same-length-2 (each-calls t) (each-at t) each.Post each-Inv-loop each-μ-loop each-Inv-loop2 each-μ-loop2
-each-same-length-2 t c = c .before .before .before .loop2 .inv .scratch ∙ c .before .before .before .before .before .before .loop .inv .scratch
+each-mul-one : (t : ℕ) → each-lts.Need-mul-one (each-calls t) (each-at t) each.Post each-Inv-loop each-μ-loop
+each-mul-one t c = omega (arith, (pop-top (c .before .before .before .before .before .before .before .before .before .before .before .before .before .before .before .before .args .what) (loopOf (c .before .before .before .before .before .before .before .before .before .before .before .before .before .before .before .before .args .lp)) (c .before .before .before .before .before .before .before .before .before .before .before .before .before .before .before .before .args .first) (c .before .before .before .before .before .before .before .before .before .before .before .before .before .before .before .before .args .default) (c .before .before .before .before .before .loop .inv (c .before .before .before .before .before .before .before .before .before .before .before .before .before .before .before .before .args .p .end) (omega (arith, (c .before .before .before .before .before .before .before .before .before .before .before .before .before .before .before .before .pre .1 .0) .fits, (c .before .before .before .before .before .before .before .before .before .before .before .before .before .before .before .before .pre .1 .0) .within .inside, c .before .before .before .before .before .before .before .before .ends-of .kept .1 .1 .1 .0)) (c .before .before .before .before .before .before .before .before .ends-of .ensures)) (c .before .before .before .before .loop-test .taken)) .room, (c .before .before .before .before .before .before .before .before .before .before .before .before .before .before .before .before .pre .1 .0) .within .inside, (c .before .before .before .before .before .before .before .before .before .before .before .before .before .before .before .before .pre .1 .0) .within .known, (c .before .before .before .before .before .before .before .before .before .before .before .before .before .before .before .before .pre .1 .0) .within .sound .few)
 
-each-returns-2 : (t : ℕ) → each-lts.Need-returns-2 (each-calls t) (each-at t) each.Post each-Inv-loop each-μ-loop each-Inv-loop2 each-μ-loop2
-each-returns-2 t c = pop-stopped (c .before .before .before .before .before .before .before .before .before .before .before .before .before .args .what) (loopOf (c .before .before .before .before .before .before .before .before .before .before .before .before .before .args .lp)) (c .before .before .before .before .before .before .before .before .before .before .before .before .before .args .first) (c .before .before .before .before .before .before .before .before .before .before .before .before .before .args .default) (c .before .before .before .loop2 .inv) (c .if3 .taken) (c .before .before .before .before .before .before .before .before .before .before .before .before .before .args .p) refl (omega (arith, (c .before .before .before .before .before .before .before .before .before .before .before .before .before .pre .1 .0) .within .inside))
+each-sub-one-2 : (t : ℕ) → each-lts.Need-sub-one-2 (each-calls t) (each-at t) each.Post each-Inv-loop each-μ-loop
+each-sub-one-2 t c = omega (arith, pop-inside (c .before .before .before .before .before .before .before .before .before .before .before .before .before .before .before .before .args .what) (loopOf (c .before .before .before .before .before .before .before .before .before .before .before .before .before .before .before .before .args .lp)) (c .before .before .before .before .before .before .before .before .before .before .before .before .before .before .before .before .args .first) (c .before .before .before .before .before .before .before .before .before .before .before .before .before .before .before .before .args .default) (c .before .before .before .before .before .loop .inv (c .before .before .before .before .before .before .before .before .before .before .before .before .before .before .before .before .args .p .end) (omega (arith, (c .before .before .before .before .before .before .before .before .before .before .before .before .before .before .before .before .pre .1 .0) .fits, (c .before .before .before .before .before .before .before .before .before .before .before .before .before .before .before .before .pre .1 .0) .within .inside, c .before .before .before .before .before .before .before .before .ends-of .kept .1 .1 .1 .0)) (c .before .before .before .before .before .before .before .before .ends-of .ensures)) (c .before .before .before .before .loop-test .taken))
 
-each-sub-top : (t : ℕ) → each-lts.Need-sub-top (each-calls t) (each-at t) each.Post each-Inv-loop each-μ-loop each-Inv-loop2 each-μ-loop2
-each-sub-top t c = pop-pos (c .before .before .before .before .before .before .before .before .before .before .before .before .before .args .what) (loopOf (c .before .before .before .before .before .before .before .before .before .before .before .before .before .args .lp)) (c .before .before .before .before .before .before .before .before .before .before .before .before .before .args .first) (c .before .before .before .before .before .before .before .before .before .before .before .before .before .args .default) (c .before .before .before .loop2 .inv) (c .before .before .loop2-test .taken)
+each-part-one-start : (t : ℕ) → each-lts.Need-part-one-start (each-calls t) (each-at t) each.Post each-Inv-loop each-μ-loop
+each-part-one-start t c = omega (arith, pop-inside (c .before .before .before .before .before .before .before .before .before .before .before .before .before .before .before .before .args .what) (loopOf (c .before .before .before .before .before .before .before .before .before .before .before .before .before .before .before .before .args .lp)) (c .before .before .before .before .before .before .before .before .before .before .before .before .before .before .before .before .args .first) (c .before .before .before .before .before .before .before .before .before .before .before .before .before .before .before .before .args .default) (c .before .before .before .before .before .loop .inv (c .before .before .before .before .before .before .before .before .before .before .before .before .before .before .before .before .args .p .end) (omega (arith, (c .before .before .before .before .before .before .before .before .before .before .before .before .before .before .before .before .pre .1 .0) .fits, (c .before .before .before .before .before .before .before .before .before .before .before .before .before .before .before .before .pre .1 .0) .within .inside, c .before .before .before .before .before .before .before .before .ends-of .kept .1 .1 .1 .0)) (c .before .before .before .before .before .before .before .before .ends-of .ensures)) (c .before .before .before .before .loop-test .taken))
 
-each-mul-end : (t : ℕ) → each-lts.Need-mul-end (each-calls t) (each-at t) each.Post each-Inv-loop each-μ-loop each-Inv-loop2 each-μ-loop2
-each-mul-end t c = search needs
-
-each-slice-read-end : (t : ℕ) → each-lts.Need-slice-read-end (each-calls t) (each-at t) each.Post each-Inv-loop each-μ-loop each-Inv-loop2 each-μ-loop2
-each-slice-read-end t c = omega (arith, pop-pos (c .before .before .before .before .before .before .before .before .before .before .before .before .before .before .args .what) (loopOf (c .before .before .before .before .before .before .before .before .before .before .before .before .before .before .args .lp)) (c .before .before .before .before .before .before .before .before .before .before .before .before .before .before .args .first) (c .before .before .before .before .before .before .before .before .before .before .before .before .before .before .args .default) (c .before .before .before .before .loop2 .inv) (c .before .before .before .loop2-test .taken), c .before .before .before .before .loop2 .inv .room, c .before .before .before .before .loop2 .inv .low, c .before .before .before .before .loop2 .inv .wide, c .before .before .before .before .loop2 .inv .scratch)
-
-each-sub-one : (t : ℕ) → each-lts.Need-sub-one (each-calls t) (each-at t) each.Post each-Inv-loop each-μ-loop each-Inv-loop2 each-μ-loop2
-each-sub-one t c = let p = pop-top (c .before .before .before .before .before .before .before .before .before .before .before .before .before .before .args .what) (loopOf (c .before .before .before .before .before .before .before .before .before .before .before .before .before .before .args .lp)) (c .before .before .before .before .before .before .before .before .before .before .before .before .before .before .args .first) (c .before .before .before .before .before .before .before .before .before .before .before .before .before .before .args .default) (c .before .before .before .before .loop2 .inv) (c .before .before .before .loop2-test .taken) in omega (arith, p .up, c .before .before .before .before .loop2 .inv .low)
-
-each-mul-one : (t : ℕ) → each-lts.Need-mul-one (each-calls t) (each-at t) each.Post each-Inv-loop each-μ-loop each-Inv-loop2 each-μ-loop2
-each-mul-one t c = search needs
-
-each-sub-one-2 : (t : ℕ) → each-lts.Need-sub-one-2 (each-calls t) (each-at t) each.Post each-Inv-loop each-μ-loop each-Inv-loop2 each-μ-loop2
-each-sub-one-2 t c = omega (arith, pop-pos (c .before .before .before .before .before .before .before .before .before .before .before .before .before .before .before .args .what) (loopOf (c .before .before .before .before .before .before .before .before .before .before .before .before .before .before .before .args .lp)) (c .before .before .before .before .before .before .before .before .before .before .before .before .before .before .before .args .first) (c .before .before .before .before .before .before .before .before .before .before .before .before .before .before .before .args .default) (c .before .before .before .before .before .loop2 .inv) (c .before .before .before .before .loop2-test .taken), c .before .before .before .before .before .loop2 .inv .room, c .before .before .before .before .before .loop2 .inv .low, c .before .before .before .before .before .loop2 .inv .wide, c .before .before .before .before .before .loop2 .inv .scratch)
-
-each-part-one-start : (t : ℕ) → each-lts.Need-part-one-start (each-calls t) (each-at t) each.Post each-Inv-loop each-μ-loop each-Inv-loop2 each-μ-loop2
-each-part-one-start t c = search needs
-
-each-part-one-end : (t : ℕ) → each-lts.Need-part-one-end (each-calls t) (each-at t) each.Post each-Inv-loop each-μ-loop each-Inv-loop2 each-μ-loop2
+each-part-one-end : (t : ℕ) → each-lts.Need-part-one-end (each-calls t) (each-at t) each.Post each-Inv-loop each-μ-loop
 each-part-one-end t c = search needs
 
-each-one-requires : (t : ℕ) → each-lts.Need-one-requires (each-calls t) (each-at t) each.Post each-Inv-loop each-μ-loop each-Inv-loop2 each-μ-loop2
-each-one-requires t c κs = let p = pop-top (c .before .before .before .before .before .before .before .before .before .before .before .before .before .before .before .before .args .what) (loopOf (c .before .before .before .before .before .before .before .before .before .before .before .before .before .before .before .before .args .lp)) (c .before .before .before .before .before .before .before .before .before .before .before .before .before .before .before .before .args .first) (c .before .before .before .before .before .before .before .before .before .before .before .before .before .before .before .before .args .default) (c .before .before .before .before .before .before .loop2 .inv) (c .before .before .before .before .before .loop2-test .taken) in (omega (arith, p .room, c .before .before .before .before .before .before .loop2 .inv .low, c .before .before .before .before .before .before .before .before .before .before .before .before .before .before .before .before .pre .0, (c .before .before .before .before .before .before .before .before .before .before .before .before .before .before .before .before .pre .1 .0) .within .inside), (record { within = p .within; fits = simp (length-take, length-drop) (omega (arith, p .room, p .up, c .before .before .before .before .before .before .loop2 .inv .low, c .before .before .before .before .before .before .loop2 .inv .room, c .before .before .before .before .before .before .loop2 .inv .scratch, c .before .before .before .before .before .before .loop2 .inv .wide)); fine = c .before .before .before .before .before .before .loop2 .inv .fine; named = c .before .before .before .before .before .before .loop2 .inv .named ((c .before .before .before .before .before .before .before .before .before .before .before .before .before .before .before .before .pre .1 .0) .named) }, omega (arith, pop-few (c .before .before .before .before .before .before .before .before .before .before .before .before .before .before .before .before .args .what) (loopOf (c .before .before .before .before .before .before .before .before .before .before .before .before .before .before .before .before .args .lp)) (c .before .before .before .before .before .before .before .before .before .before .before .before .before .before .before .before .args .first) (c .before .before .before .before .before .before .before .before .before .before .before .before .before .before .before .before .args .default) (c .before .before .before .before .before .before .loop2 .inv) .0, p .up, p .room, c .before .before .before .before .before .before .before .before .before .before .before .before .before .before .before .before .pre .1 .1, (c .before .before .before .before .before .before .before .before .before .before .before .before .before .before .before .before .pre .1 .0) .within .inside)))
+each-one-requires : (t : ℕ) → each-lts.Need-one-requires (each-calls t) (each-at t) each.Post each-Inv-loop each-μ-loop
+each-one-requires t c κs = (omega (arith, pop-below (c .before .before .before .before .before .before .before .before .before .before .before .before .before .before .before .before .before .args .what) (loopOf (c .before .before .before .before .before .before .before .before .before .before .before .before .before .before .before .before .before .args .lp)) (c .before .before .before .before .before .before .before .before .before .before .before .before .before .before .before .before .before .args .first) (c .before .before .before .before .before .before .before .before .before .before .before .before .before .before .before .before .before .args .default) (c .before .before .before .before .before .before .loop .inv (c .before .before .before .before .before .before .before .before .before .before .before .before .before .before .before .before .before .args .p .end) (omega (arith, (c .before .before .before .before .before .before .before .before .before .before .before .before .before .before .before .before .before .pre .1 .0) .fits, (c .before .before .before .before .before .before .before .before .before .before .before .before .before .before .before .before .before .pre .1 .0) .within .inside, c .before .before .before .before .before .before .before .before .before .ends-of .kept .1 .1 .1 .0)) (c .before .before .before .before .before .before .before .before .before .ends-of .ensures)) (c .before .before .before .before .before .loop-test .taken) (c .before .before .before .before .before .before .before .before .before .before .before .before .before .before .before .before .before .args .p .n) (omega (arith, (c .before .before .before .before .before .before .before .before .before .before .before .before .before .before .before .before .before .pre .1 .0) .within .inside)), c .before .before .before .before .before .before .before .before .before .before .before .before .before .before .before .before .before .pre .0), (record { within = (pop-top (c .before .before .before .before .before .before .before .before .before .before .before .before .before .before .before .before .before .args .what) (loopOf (c .before .before .before .before .before .before .before .before .before .before .before .before .before .before .before .before .before .args .lp)) (c .before .before .before .before .before .before .before .before .before .before .before .before .before .before .before .before .before .args .first) (c .before .before .before .before .before .before .before .before .before .before .before .before .before .before .before .before .before .args .default) (c .before .before .before .before .before .before .loop .inv (c .before .before .before .before .before .before .before .before .before .before .before .before .before .before .before .before .before .args .p .end) (omega (arith, (c .before .before .before .before .before .before .before .before .before .before .before .before .before .before .before .before .before .pre .1 .0) .fits, (c .before .before .before .before .before .before .before .before .before .before .before .before .before .before .before .before .before .pre .1 .0) .within .inside, c .before .before .before .before .before .before .before .before .before .ends-of .kept .1 .1 .1 .0)) (c .before .before .before .before .before .before .before .before .before .ends-of .ensures)) (c .before .before .before .before .before .loop-test .taken)) .within; fits = simp (length-take, length-drop) (omega (arith, pop-fits (c .before .before .before .before .before .before .before .before .before .before .before .before .before .before .before .before .before .args .what) (loopOf (c .before .before .before .before .before .before .before .before .before .before .before .before .before .before .before .before .before .args .lp)) (c .before .before .before .before .before .before .before .before .before .before .before .before .before .before .before .before .before .args .first) (c .before .before .before .before .before .before .before .before .before .before .before .before .before .before .before .before .before .args .default) (c .before .before .before .before .before .before .loop .inv (c .before .before .before .before .before .before .before .before .before .before .before .before .before .before .before .before .before .args .p .end) (omega (arith, (c .before .before .before .before .before .before .before .before .before .before .before .before .before .before .before .before .before .pre .1 .0) .fits, (c .before .before .before .before .before .before .before .before .before .before .before .before .before .before .before .before .before .pre .1 .0) .within .inside, c .before .before .before .before .before .before .before .before .before .ends-of .kept .1 .1 .1 .0)) (c .before .before .before .before .before .before .before .before .before .ends-of .ensures)) (c .before .before .before .before .before .loop-test .taken))); fine = (c .before .before .before .before .before .before .loop .inv (c .before .before .before .before .before .before .before .before .before .before .before .before .before .before .before .before .before .args .p .end) (omega (arith, (c .before .before .before .before .before .before .before .before .before .before .before .before .before .before .before .before .before .pre .1 .0) .fits, (c .before .before .before .before .before .before .before .before .before .before .before .before .before .before .before .before .before .pre .1 .0) .within .inside, c .before .before .before .before .before .before .before .before .before .ends-of .kept .1 .1 .1 .0)) (c .before .before .before .before .before .before .before .before .before .ends-of .ensures)) .fine; named = (c .before .before .before .before .before .before .loop .inv (c .before .before .before .before .before .before .before .before .before .before .before .before .before .before .before .before .before .args .p .end) (omega (arith, (c .before .before .before .before .before .before .before .before .before .before .before .before .before .before .before .before .before .pre .1 .0) .fits, (c .before .before .before .before .before .before .before .before .before .before .before .before .before .before .before .before .before .pre .1 .0) .within .inside, c .before .before .before .before .before .before .before .before .before .ends-of .kept .1 .1 .1 .0)) (c .before .before .before .before .before .before .before .before .before .ends-of .ensures)) .named ((c .before .before .before .before .before .before .before .before .before .before .before .before .before .before .before .before .before .pre .1 .0) .named) }, omega (arith, pop-few (c .before .before .before .before .before .before .before .before .before .before .before .before .before .before .before .before .before .args .what) (loopOf (c .before .before .before .before .before .before .before .before .before .before .before .before .before .before .before .before .before .args .lp)) (c .before .before .before .before .before .before .before .before .before .before .before .before .before .before .before .before .before .args .first) (c .before .before .before .before .before .before .before .before .before .before .before .before .before .before .before .before .before .args .default) (c .before .before .before .before .before .before .loop .inv (c .before .before .before .before .before .before .before .before .before .before .before .before .before .before .before .before .before .args .p .end) (omega (arith, (c .before .before .before .before .before .before .before .before .before .before .before .before .before .before .before .before .before .pre .1 .0) .fits, (c .before .before .before .before .before .before .before .before .before .before .before .before .before .before .before .before .before .pre .1 .0) .within .inside, c .before .before .before .before .before .before .before .before .before .ends-of .kept .1 .1 .1 .0)) (c .before .before .before .before .before .before .before .before .before .ends-of .ensures)) (c .before .before .before .before .before .loop-test .taken) (c .before .before .before .before .before .before .before .before .before .before .before .before .before .before .before .before .before .args .p .n) (omega (arith, (c .before .before .before .before .before .before .before .before .before .before .before .before .before .before .before .before .before .pre .1 .0) .within .inside)) .0, c .before .before .before .before .before .before .before .before .before .before .before .before .before .before .before .before .before .pre .1 .1)))
 
-each-element-at-requires : (t : ℕ) → each-lts.Need-element-at-requires (each-calls t) (each-at t) each.Post each-Inv-loop each-μ-loop each-Inv-loop2 each-μ-loop2
+each-element-at-requires : (t : ℕ) → each-lts.Need-element-at-requires (each-calls t) (each-at t) each.Post each-Inv-loop each-μ-loop
 each-element-at-requires t c κs = tt
 
-each-is-labelled-requires : (t : ℕ) → each-lts.Need-is-labelled-requires (each-calls t) (each-at t) each.Post each-Inv-loop each-μ-loop each-Inv-loop2 each-μ-loop2
+each-is-labelled-requires : (t : ℕ) → each-lts.Need-is-labelled-requires (each-calls t) (each-at t) each.Post each-Inv-loop each-μ-loop
 each-is-labelled-requires t c κs = tt
 
-each-add-seen : (t : ℕ) → each-lts.Need-add-seen (each-calls t) (each-at t) each.Post each-Inv-loop each-μ-loop each-Inv-loop2 each-μ-loop2
-each-add-seen t c = let p = pop-top (c .before .before .before .before .before .before .before .before .before .before .before .before .before .before .before .before .before .before .before .before .before .before .before .args .what) (loopOf (c .before .before .before .before .before .before .before .before .before .before .before .before .before .before .before .before .before .before .before .before .before .before .before .args .lp)) (c .before .before .before .before .before .before .before .before .before .before .before .before .before .before .before .before .before .before .before .before .before .before .before .args .first) (c .before .before .before .before .before .before .before .before .before .before .before .before .before .before .before .before .before .before .before .before .before .before .before .args .default) (c .before .before .before .before .before .before .before .before .before .before .before .before .before .loop2 .inv) (c .before .before .before .before .before .before .before .before .before .before .before .before .loop2-test .taken) in omega (arith, pop-few (c .before .before .before .before .before .before .before .before .before .before .before .before .before .before .before .before .before .before .before .before .before .before .before .args .what) (loopOf (c .before .before .before .before .before .before .before .before .before .before .before .before .before .before .before .before .before .before .before .before .before .before .before .args .lp)) (c .before .before .before .before .before .before .before .before .before .before .before .before .before .before .before .before .before .before .before .before .before .before .before .args .first) (c .before .before .before .before .before .before .before .before .before .before .before .before .before .before .before .before .before .before .before .before .before .before .before .args .default) (c .before .before .before .before .before .before .before .before .before .before .before .before .before .loop2 .inv) .0, c .is-labelled .ensures, element-few (c .before .element-at .result) .0, p .up, p .room, (c .before .before .before .before .before .before .before .before .before .before .before .before .before .before .before .before .before .before .before .before .before .before .before .pre .1 .0) .within .inside, (c .before .before .before .before .before .before .before .before .before .before .before .before .before .before .before .before .before .before .before .before .before .before .before .pre .1 .0) .within .known, (c .before .before .before .before .before .before .before .before .before .before .before .before .before .before .before .before .before .before .before .before .before .before .before .pre .1 .0) .within .sound .few)
+each-add-seen : (t : ℕ) → each-lts.Need-add-seen (each-calls t) (each-at t) each.Post each-Inv-loop each-μ-loop
+each-add-seen t c = omega (arith, pop-few (c .before .before .before .before .before .before .before .before .before .before .before .before .before .before .before .before .before .before .before .before .before .before .before .before .args .what) (loopOf (c .before .before .before .before .before .before .before .before .before .before .before .before .before .before .before .before .before .before .before .before .before .before .before .before .args .lp)) (c .before .before .before .before .before .before .before .before .before .before .before .before .before .before .before .before .before .before .before .before .before .before .before .before .args .first) (c .before .before .before .before .before .before .before .before .before .before .before .before .before .before .before .before .before .before .before .before .before .before .before .before .args .default) (c .before .before .before .before .before .before .before .before .before .before .before .before .before .loop .inv (c .before .before .before .before .before .before .before .before .before .before .before .before .before .before .before .before .before .before .before .before .before .before .before .before .args .p .end) (omega (arith, (c .before .before .before .before .before .before .before .before .before .before .before .before .before .before .before .before .before .before .before .before .before .before .before .before .pre .1 .0) .fits, (c .before .before .before .before .before .before .before .before .before .before .before .before .before .before .before .before .before .before .before .before .before .before .before .before .pre .1 .0) .within .inside, c .before .before .before .before .before .before .before .before .before .before .before .before .before .before .before .before .ends-of .kept .1 .1 .1 .0)) (c .before .before .before .before .before .before .before .before .before .before .before .before .before .before .before .before .ends-of .ensures)) (c .before .before .before .before .before .before .before .before .before .before .before .before .loop-test .taken) (c .before .before .before .before .before .before .before .before .before .before .before .before .before .before .before .before .before .before .before .before .before .before .before .before .args .p .n) (omega (arith, (c .before .before .before .before .before .before .before .before .before .before .before .before .before .before .before .before .before .before .before .before .before .before .before .before .pre .1 .0) .within .inside)) .0, c .is-labelled .ensures, element-few (c .before .element-at .result) .0, (c .before .before .before .before .before .before .before .before .before .before .before .before .before .before .before .before .before .before .before .before .before .before .before .before .pre .1 .0) .within .inside, (c .before .before .before .before .before .before .before .before .before .before .before .before .before .before .before .before .before .before .before .before .before .before .before .before .pre .1 .0) .within .known, (c .before .before .before .before .before .before .before .before .before .before .before .before .before .before .before .before .before .before .before .before .before .before .before .before .pre .1 .0) .within .sound .few)
 
-each-is-case-requires : (t : ℕ) → each-lts.Need-is-case-requires (each-calls t) (each-at t) each.Post each-Inv-loop each-μ-loop each-Inv-loop2 each-μ-loop2
+each-is-case-requires : (t : ℕ) → each-lts.Need-is-case-requires (each-calls t) (each-at t) each.Post each-Inv-loop each-μ-loop
 each-is-case-requires t c κs = tt
 
-each-add-cases : (t : ℕ) → each-lts.Need-add-cases (each-calls t) (each-at t) each.Post each-Inv-loop each-μ-loop each-Inv-loop2 each-μ-loop2
-each-add-cases t c = let p = pop-top (c .before .before .before .before .before .before .before .before .before .before .before .before .before .before .before .before .before .before .before .before .before .before .before .before .args .what) (loopOf (c .before .before .before .before .before .before .before .before .before .before .before .before .before .before .before .before .before .before .before .before .before .before .before .before .args .lp)) (c .before .before .before .before .before .before .before .before .before .before .before .before .before .before .before .before .before .before .before .before .before .before .before .before .args .first) (c .before .before .before .before .before .before .before .before .before .before .before .before .before .before .before .before .before .before .before .before .before .before .before .before .args .default) (c .before .before .before .before .before .before .before .before .before .before .before .before .before .before .loop2 .inv) (c .before .before .before .before .before .before .before .before .before .before .before .before .before .loop2-test .taken) in omega (arith, pop-few (c .before .before .before .before .before .before .before .before .before .before .before .before .before .before .before .before .before .before .before .before .before .before .before .before .args .what) (loopOf (c .before .before .before .before .before .before .before .before .before .before .before .before .before .before .before .before .before .before .before .before .before .before .before .before .args .lp)) (c .before .before .before .before .before .before .before .before .before .before .before .before .before .before .before .before .before .before .before .before .before .before .before .before .args .first) (c .before .before .before .before .before .before .before .before .before .before .before .before .before .before .before .before .before .before .before .before .before .before .before .before .args .default) (c .before .before .before .before .before .before .before .before .before .before .before .before .before .before .loop2 .inv) .1, c .is-case .ensures, element-few (c .before .before .element-at .result) .1, p .up, p .room, (c .before .before .before .before .before .before .before .before .before .before .before .before .before .before .before .before .before .before .before .before .before .before .before .before .pre .1 .0) .within .inside, (c .before .before .before .before .before .before .before .before .before .before .before .before .before .before .before .before .before .before .before .before .before .before .before .before .pre .1 .0) .within .known, (c .before .before .before .before .before .before .before .before .before .before .before .before .before .before .before .before .before .before .before .before .before .before .before .before .pre .1 .0) .within .sound .few)
+each-add-cases : (t : ℕ) → each-lts.Need-add-cases (each-calls t) (each-at t) each.Post each-Inv-loop each-μ-loop
+each-add-cases t c = omega (arith, pop-few (c .before .before .before .before .before .before .before .before .before .before .before .before .before .before .before .before .before .before .before .before .before .before .before .before .before .args .what) (loopOf (c .before .before .before .before .before .before .before .before .before .before .before .before .before .before .before .before .before .before .before .before .before .before .before .before .before .args .lp)) (c .before .before .before .before .before .before .before .before .before .before .before .before .before .before .before .before .before .before .before .before .before .before .before .before .before .args .first) (c .before .before .before .before .before .before .before .before .before .before .before .before .before .before .before .before .before .before .before .before .before .before .before .before .before .args .default) (c .before .before .before .before .before .before .before .before .before .before .before .before .before .before .loop .inv (c .before .before .before .before .before .before .before .before .before .before .before .before .before .before .before .before .before .before .before .before .before .before .before .before .before .args .p .end) (omega (arith, (c .before .before .before .before .before .before .before .before .before .before .before .before .before .before .before .before .before .before .before .before .before .before .before .before .before .pre .1 .0) .fits, (c .before .before .before .before .before .before .before .before .before .before .before .before .before .before .before .before .before .before .before .before .before .before .before .before .before .pre .1 .0) .within .inside, c .before .before .before .before .before .before .before .before .before .before .before .before .before .before .before .before .before .ends-of .kept .1 .1 .1 .0)) (c .before .before .before .before .before .before .before .before .before .before .before .before .before .before .before .before .before .ends-of .ensures)) (c .before .before .before .before .before .before .before .before .before .before .before .before .before .loop-test .taken) (c .before .before .before .before .before .before .before .before .before .before .before .before .before .before .before .before .before .before .before .before .before .before .before .before .before .args .p .n) (omega (arith, (c .before .before .before .before .before .before .before .before .before .before .before .before .before .before .before .before .before .before .before .before .before .before .before .before .before .pre .1 .0) .within .inside)) .1, c .is-case .ensures, element-few (c .before .before .element-at .result) .1, (c .before .before .before .before .before .before .before .before .before .before .before .before .before .before .before .before .before .before .before .before .before .before .before .before .before .pre .1 .0) .within .inside, (c .before .before .before .before .before .before .before .before .before .before .before .before .before .before .before .before .before .before .before .before .before .before .before .before .before .pre .1 .0) .within .known, (c .before .before .before .before .before .before .before .before .before .before .before .before .before .before .before .before .before .before .before .before .before .before .before .before .before .pre .1 .0) .within .sound .few)
 
-each-loop2-less : (t : ℕ) → each-lts.Need-loop2-less (each-calls t) (each-at t) each.Post each-Inv-loop each-μ-loop each-Inv-loop2 each-μ-loop2
-each-loop2-less t c = let p = pop-top (c .before .before .before .before .before .before .before .before .before .before .before .before .before .before .before .before .before .before .before .before .before .before .before .before .args .what) (loopOf (c .before .before .before .before .before .before .before .before .before .before .before .before .before .before .before .before .before .before .before .before .before .before .before .before .args .lp)) (c .before .before .before .before .before .before .before .before .before .before .before .before .before .before .before .before .before .before .before .before .before .before .before .before .args .first) (c .before .before .before .before .before .before .before .before .before .before .before .before .before .before .before .before .before .before .before .before .before .before .before .before .args .default) (c .before .before .before .before .before .before .before .before .before .before .before .before .before .before .loop2 .inv) (c .before .before .before .before .before .before .before .before .before .before .before .before .before .loop2-test .taken) in omega (arith, p .up, p .room)
+each-loop-less : (t : ℕ) → each-lts.Need-loop-less (each-calls t) (each-at t) each.Post each-Inv-loop each-μ-loop
+each-loop-less t c = omega (arith, c .before .before .before .before .before .before .before .before .before .before .before .before .before .loop-test .taken)
 
-each-loop2-again : (t : ℕ) → each-lts.Need-loop2-again (each-calls t) (each-at t) each.Post each-Inv-loop each-μ-loop each-Inv-loop2 each-μ-loop2
-each-loop2-again t c = pop-again (c .before .before .before .before .before .before .before .before .before .before .before .before .before .before .before .before .before .before .before .before .before .before .before .before .args .what) (loopOf (c .before .before .before .before .before .before .before .before .before .before .before .before .before .before .before .before .before .before .before .before .before .before .before .before .args .lp)) (c .before .before .before .before .before .before .before .before .before .before .before .before .before .before .before .before .before .before .before .before .before .before .before .before .args .first) (c .before .before .before .before .before .before .before .before .before .before .before .before .before .before .before .before .before .before .before .before .before .before .before .before .args .default) (c .before .before .before .before .before .before .before .before .before .before .before .before .before .before .loop2 .inv) (c .before .before .before .before .before .before .before .one .last .1 .1 .1 .1 .1 .0) (c .before .before .before .before .before .before .before .before .before .before .before .before .before .loop2-test .taken) (c .before .before .before .before .before .before .before .one .ensures) refl (c .before .before .element-at .ensures) (ap (λ (k : ℕ). c .before .before .before .before .before .before .before .before .before .before .before .before .before .before .loop2 .seen + k) (c .before .is-labelled .ensures)) (ap (λ (k : ℕ). c .before .before .before .before .before .before .before .before .before .before .before .before .before .before .loop2 .cases + k) (c .is-case .ensures)) (c .before .before .before .before .before .before .before .one .kept .1 .1 .1 .1 .0) (c .before .before .before .before .before .before .before .one .kept .1 .1 .1 .1 .1 .0)
+each-loop-again : (t : ℕ) → each-lts.Need-loop-again (each-calls t) (each-at t) each.Post each-Inv-loop each-μ-loop
+each-loop-again t c = λ last r k. pop-again (c .before .before .before .before .before .before .before .before .before .before .before .before .before .before .before .before .before .before .before .before .before .before .before .before .before .args .what) (loopOf (c .before .before .before .before .before .before .before .before .before .before .before .before .before .before .before .before .before .before .before .before .before .before .before .before .before .args .lp)) (c .before .before .before .before .before .before .before .before .before .before .before .before .before .before .before .before .before .before .before .before .before .before .before .before .before .args .first) (c .before .before .before .before .before .before .before .before .before .before .before .before .before .before .before .before .before .before .before .before .before .before .before .before .before .args .default) (c .before .before .before .before .before .before .before .before .before .before .before .before .before .before .loop .inv last r k) (c .before .before .before .before .before .before .before .one .last .1 .1 .1 .1 .1 .0) (c .before .before .before .before .before .before .before .before .before .before .before .before .before .loop-test .taken) (c .before .before .before .before .before .before .before .one .ensures) (c .before .before .element-at .ensures) (ap (λ (k : ℕ). c .before .before .before .before .before .before .before .before .before .before .before .before .before .before .loop .seen + k) (c .before .is-labelled .ensures)) (ap (λ (k : ℕ). c .before .before .before .before .before .before .before .before .before .before .before .before .before .before .loop .cases + k) (c .is-case .ensures)) (c .before .before .before .before .before .before .before .one .kept .1 .1 .1 .1 .0) (c .before .before .before .before .before .before .before .one .kept .1 .1 .1 .1 .1 .0)
 
-each-same-length-3 : (t : ℕ) → each-lts.Need-same-length-3 (each-calls t) (each-at t) each.Post each-Inv-loop each-μ-loop each-Inv-loop2 each-μ-loop2
-each-same-length-3 t c = c .before .loop2 .inv .list
+each-same-length-3 : (t : ℕ) → each-lts.Need-same-length-3 (each-calls t) (each-at t) each.Post each-Inv-loop each-μ-loop
+each-same-length-3 t c = (c .before .loop .inv (c .before .before .before .before .before .before .before .before .before .before .before .before .args .p .end) (omega (arith, (c .before .before .before .before .before .before .before .before .before .before .before .before .pre .1 .0) .fits, (c .before .before .before .before .before .before .before .before .before .before .before .before .pre .1 .0) .within .inside, c .before .before .before .before .ends-of .kept .1 .1 .1 .0)) (c .before .before .before .before .ends-of .ensures)) .list
 
-each-same-length-4 : (t : ℕ) → each-lts.Need-same-length-4 (each-calls t) (each-at t) each.Post each-Inv-loop each-μ-loop each-Inv-loop2 each-μ-loop2
-each-same-length-4 t c = c .before .loop2 .inv .scratch ∙ c .before .before .before .before .loop .inv .scratch
+each-same-length-4 : (t : ℕ) → each-lts.Need-same-length-4 (each-calls t) (each-at t) each.Post each-Inv-loop each-μ-loop
+each-same-length-4 t c = (c .before .loop .inv (c .before .before .before .before .before .before .before .before .before .before .before .before .args .p .end) (omega (arith, (c .before .before .before .before .before .before .before .before .before .before .before .before .pre .1 .0) .fits, (c .before .before .before .before .before .before .before .before .before .before .before .before .pre .1 .0) .within .inside, c .before .before .before .before .ends-of .kept .1 .1 .1 .0)) (c .before .before .before .before .ends-of .ensures)) .scratch ∙ c .before .before .before .before .ends-of .kept .1 .1 .1 .0
 
-each-returns-3 : (t : ℕ) → each-lts.Need-returns-3 (each-calls t) (each-at t) each.Post each-Inv-loop each-μ-loop each-Inv-loop2 each-μ-loop2
-each-returns-3 t c = pop-done (c .before .before .before .before .before .before .before .before .before .before .before .args .what) (loopOf (c .before .before .before .before .before .before .before .before .before .before .before .args .lp)) (c .before .before .before .before .before .before .before .before .before .before .before .args .first) (c .before .before .before .before .before .before .before .before .before .before .before .args .default) (c .before .loop2 .inv) (c .loop2-test .left) (c .before .before .before .before .before .before .before .before .before .before .before .args .p) refl (omega (arith, (c .before .before .before .before .before .before .before .before .before .before .before .pre .1 .0) .within .inside))
+each-returns-3 : (t : ℕ) → each-lts.Need-returns-3 (each-calls t) (each-at t) each.Post each-Inv-loop each-μ-loop
+each-returns-3 t c = pop-done (c .before .before .before .before .before .before .before .before .before .before .before .before .args .what) (loopOf (c .before .before .before .before .before .before .before .before .before .before .before .before .args .lp)) (c .before .before .before .before .before .before .before .before .before .before .before .before .args .first) (c .before .before .before .before .before .before .before .before .before .before .before .before .args .default) (c .before .loop .inv (c .before .before .before .before .before .before .before .before .before .before .before .before .args .p .end) (omega (arith, (c .before .before .before .before .before .before .before .before .before .before .before .before .pre .1 .0) .fits, (c .before .before .before .before .before .before .before .before .before .before .before .before .pre .1 .0) .within .inside, c .before .before .before .before .ends-of .kept .1 .1 .1 .0)) (c .before .before .before .before .ends-of .ensures)) (c .loop-test .left) (c .before .before .before .before .before .before .before .before .before .before .before .before .args .p) refl (omega (arith, (c .before .before .before .before .before .before .before .before .before .before .before .before .pre .1 .0) .within .inside))
 
 abbrev ends-calls : ℕ → ends-lts.Claims
 ends-calls t = (node-at-reads.Asked, node-at-reads.Learnt, no-loop-reads.Asked, no-loop-reads.Learnt, each-below t, each.Post, gen-expr-below t, gen-expr.Post, action-reads.Asked, action-reads.Learnt, branch-reads.Asked, branch-reads.Learnt)
@@ -2686,18 +2663,10 @@ pub +adjust+args+drag+each+ends+exit+for-expr+gen-binary-op+gen-call+gen-expr+ge
     each.Post
     each-Inv-loop
     each-μ-loop
-    each-Inv-loop2
-    each-μ-loop2
-    (each-sub-lo t)
     (each-returns t)
+    (each-sub-lo t)
+    (each-ends-of-requires t)
     (each-loop-holds t)
-    (each-mul-scratch t)
-    (each-slice-write-scratch t)
-    (each-add-top t)
-    (each-rest-of-requires t)
-    (each-loop-less t)
-    (each-loop-again t)
-    (each-loop2-holds t)
     (each-same-length t)
     (each-same-length-2 t)
     (each-returns-2 t)
@@ -2715,8 +2684,8 @@ pub +adjust+args+drag+each+ends+exit+for-expr+gen-binary-op+gen-call+gen-expr+ge
     (each-add-seen t)
     (each-is-case-requires t)
     (each-add-cases t)
-    (each-loop2-less t)
-    (each-loop2-again t)
+    (each-loop-less t)
+    (each-loop-again t)
     (each-same-length-3 t)
     (each-same-length-4 t)
     (each-returns-3 t))

@@ -1,0 +1,274 @@
+-- The walk along a row that keeps where its trees end, and leaves out those that generate nothing.
+use Prim.Native.Nat.{ℕ, zero, suc, _+_, _-_, _≤_, _<_, min}
+use mathlib.Core.Path.{_≡_, refl, sym, ap, _∙_}
+use mathlib.Core.List.{List}
+use mathlib.Core.Bool.{Bool, true, false, cond, not, _&&_, _||_}
+use mathlib.Core.Option.{Option, none, some}
+use native.Mathlib.Omega.{arith}
+use native.Mathlib.Nat.{add-zero}
+use native.Mathlib.Numerals.{add-one}
+use lib.Dec.{T, ltb, eqb}
+use lib.ListN.{length, getD, set, length-set}
+use lib.Seq.{getD-set-same, getD-set-other}
+use borrow.Author.Tests.{eqb-true, ne-eqb}
+use Rattle.hir.specs.Hir.{Rec}
+use Rattle.hir.specs.Hir as hir
+use Rattle.hir.specs.Tree.{Forest, more}
+use Rattle.hir.specs.declared.Record.{Record}
+use Rattle.hir.specs.declared.Record.the-variants as kind
+use Rattle.hir.specs.declared.StatementKind.the-variants as code
+use Rattle.script_records.specs.declared.layout.Layout.{Layout}
+use Rattle.script_records.specs.declared.part.Part.{Part}
+use Rattle.script_records.specs.Layout.{layoutOf, stringAt, spanAt}
+use Rattle.script_records.proofs.Trees.{span-le}
+use Rattle.decode.specs.Decode.{recordOf, plainOf, statementKinds}
+use Rattle.script.specs.Resolve.{resolved}
+use Rattle.lowering.specs.Builder.{Step, _>>_, done, when}
+use Rattle.lowering.specs.Meaning.{Loop, Meaning, hoisted, element}
+use Rattle.lowering.specs.Meaning as meaning
+use Rattle.lowering.specs.Statement.{meanings}
+use Rattle.codegen_state.specs.View.{Held, after}
+use Rattle.codegen_state.proofs.Steps.{after-then, after-done}
+use Rattle.tree.specs.declared.Node.{Node}
+use Rattle.tree.specs.Trees.{rowsIn, trees, recOf, nodeOf, kindAt}
+use Rattle.tree.specs.Within.{Within, IsNode, meaningsAt, kidAt, listAt}
+use Rattle.tree.proofs.Nodes.{is-node, trees-more}
+use Rattle.tree.proofs.Meanings.{kid-zero}
+use Rattle.builder.specs.Labels.{labels-of, one-label}
+use Rattle.rows.specs.declared.Each.{Each}
+use Rattle.rows.specs.declared.Each.the-variants.{Expr, Discarded, Field, Statement, Hoisted, Unhoisted, Conditional, Element}
+use Rattle.rows.specs.Rows.{oneOf, eachOf, switch-element, cases-of, one-case}
+use Rattle.rows.specs.Kept.{ofStatements, isNowhere, leftOut, upto, startOf, Idle, Kept}
+
+-- a row, by its last tree
+module _ (F : List ℕ) (l : Layout) (p : Part) {t : Node} (i : IsNode F l p t) (h : 0 < p .n) where
+  pub each-more : (e : Each) (lp : Loop) (f d : ℕ) → eachOf e lp f d (meaningsAt F p) ≡
+      eachOf e lp f d (meaningsAt F (t .before)) >> oneOf e lp f d (labels-of (meaningsAt F (t .before))) (cases-of (meaningsAt F (t .before))) (kidAt F p 0) (listAt F p 0)
+  unfolding meanings eachOf
+  each-more e lp f d = rw (trees-more F l p i h)
+
+  pub labels-more : labels-of (meaningsAt F p) ≡ labels-of (meaningsAt F (t .before)) + one-label (element (recOf F (t .root)))
+  unfolding meanings labels-of
+  labels-more = rw (trees-more F l p i h)
+
+  pub cases-more : cases-of (meaningsAt F p) ≡ cases-of (meaningsAt F (t .before)) + one-case (element (recOf F (t .root)))
+  unfolding meanings cases-of
+  cases-more = rw (trees-more F l p i h)
+
+-- a statement that generates nothing: neither does a row's step for it
+module _ (lp : Loop) (f d s c : ℕ) (m : Meaning) (kids : Forest Meaning) (quiet : (v : Held (Unit {0})) → after v (m .gen-statement lp) ≡ v) (no-label : element (m .rec) ≡ meaning.statement) where
+  when-quiet : (b : Bool) (v : Held (Unit {0})) → after v (when b (m .gen-statement lp)) ≡ v
+  when-quiet true v = quiet v
+  when-quiet false v = after-done v
+
+  one-quiet : (e : Each) → ofStatements e ≡ true → (v : Held (Unit {0})) → after v (oneOf e lp f d s c m kids) ≡ v
+  one-quiet Expr h v = absurd (omega (arith, ap (λ (x : Bool). cond {A = ℕ} x 1 0) h))
+  one-quiet Discarded h v = absurd (omega (arith, ap (λ (x : Bool). cond {A = ℕ} x 1 0) h))
+  one-quiet Field h v = absurd (omega (arith, ap (λ (x : Bool). cond {A = ℕ} x 1 0) h))
+  one-quiet Statement h v = quiet v
+  one-quiet Hoisted h v = when-quiet (hoisted (m .rec) kids) v
+  one-quiet Unhoisted h v = when-quiet (not (hoisted (m .rec) kids)) v
+  one-quiet Conditional h v = absurd (omega (arith, ap (λ (x : Bool). cond {A = ℕ} x 1 0) h))
+  one-quiet Element h v = rw no-label (when-quiet (ltb 0 s) v)
+
+-- a record of kind 8 is a Break, and one of kind 9 a Continue
+module _ (F : List ℕ) (l : Layout) (p : Part) (z : p .n ≡ 0 → ⊥) where
+  break-root : kindAt F l p ≡ 8 → nodeOf F l p .root ≡ kind.Statement code.Break
+  unfolding kindAt nodeOf recordOf plainOf statementKinds
+  break-root e = let k = rw (ne-eqb (p .n) 0 z) at e in rw (ne-eqb (p .n) 0 z, k)
+
+  continue-root : kindAt F l p ≡ 9 → nodeOf F l p .root ≡ kind.Statement code.Continue
+  unfolding kindAt nodeOf recordOf plainOf statementKinds
+  continue-root e = let k = rw (ne-eqb (p .n) 0 z) at e in rw (ne-eqb (p .n) 0 z, k)
+
+-- trees that generate nothing, one after the other
+module _ {F : List ℕ} {e : Each} {lp : Loop} {lo : ℕ} where
+  idle-none : (q : ℕ) → Idle F e lp lo q q
+  idle-none q = record { up = omega arith; same = λ f d v. refl; labels = refl; cases = refl }
+
+  idle-then : {q r s : ℕ} → Idle F e lp lo q r → Idle F e lp lo r s → Idle F e lp lo q s
+  idle-then a b = record { up = omega (arith, a .up, b .up); same = λ f d v. b .same f d v ∙ a .same f d v; labels = b .labels ∙ a .labels; cases = b .cases ∙ a .cases }
+
+-- what is left out, and what that says of the loop around
+pub record Lasting (breaks continues : Bool) (e : Each) (lp : Loop) : Type 0 where
+  pub breaks-is : breaks ≡ (isNowhere (lp .break-label) && ofStatements e)
+  pub continues-is : continues ≡ (isNowhere (lp .continue-label) && ofStatements e)
+
+nowhere : (o : Option ℕ) (b : Bool) → (isNowhere o && b) ≡ true → (o ≡ none) × (b ≡ true)
+nowhere none b h = (refl, h)
+nowhere (some label) b h = absurd (omega (arith, ap (λ (x : Bool). cond {A = ℕ} x 1 0) h))
+
+-- the last tree of a part, if it is left out
+module _ (F : List ℕ) (l : Layout) (p : Part) (w : Within F l p) (z : p .n ≡ 0 → ⊥) (e : Each) (lp : Loop) where
+  abbrev Quiet : Type 0
+  Quiet = (ofStatements e ≡ true) × ((v : Held (Unit {0})) → after v (kidAt F p 0 .gen-statement lp) ≡ v) × (element (kidAt F p 0 .rec) ≡ meaning.statement)
+
+  break-quiet : kindAt F l p ≡ 8 → (isNowhere (lp .break-label) && ofStatements e) ≡ true → Quiet
+  unfolding resolved
+  break-quiet k h =
+      let n = nowhere (lp .break-label) (ofStatements e) h in
+      (n .1, rw (kid-zero F l p (is-node F l p w refl), break-root F l p z k, n .0) (λ v. after-done v), rw (kid-zero F l p (is-node F l p w refl), break-root F l p z k))
+
+  continue-quiet : kindAt F l p ≡ 9 → (isNowhere (lp .continue-label) && ofStatements e) ≡ true → Quiet
+  unfolding resolved
+  continue-quiet k h =
+      let n = nowhere (lp .continue-label) (ofStatements e) h in
+      (n .1, rw (kid-zero F l p (is-node F l p w refl), continue-root F l p z k, n .0) (λ v. after-done v), rw (kid-zero F l p (is-node F l p w refl), continue-root F l p z k))
+
+  left-out-quiet : {breaks continues : Bool} → Lasting breaks continues e lp → leftOut (kindAt F l p) breaks continues ≡ true → Quiet
+  left-out-quiet {breaks} {continues} o h = by (eqb (kindAt F l p) 8) refl (eqb (kindAt F l p) 9) refl
+    where
+      by : (a : Bool) → eqb (kindAt F l p) 8 ≡ a → (b : Bool) → eqb (kindAt F l p) 9 ≡ b → Quiet
+      by true x b y = break-quiet (eqb-true _ 8 x) (rw (x, o .breaks-is) at h)
+      by false x true y = continue-quiet (eqb-true _ 9 y) (rw (x, y, o .continues-is) at h)
+      by false x false y = absurd (omega (arith, ap (λ (v : Bool). cond {A = ℕ} v 1 0) (rw (x, y) at h)))
+
+pub part-is : (p : Part) (e n : ℕ) → p .end ≡ e → p .n ≡ n → p ≡ record { end = e; n = n }
+part-is p e n a b = rw (← a, ← b)
+
+sub-sub : (j lo s q : ℕ) → lo ≤ q → q < j → j - s ≡ q → j - lo - s ≡ q - lo
+sub-sub j lo s q a b e = omega arith
+
+-- the trees before the last of those up to j
+pub before-is : (F : List ℕ) (l : Layout) (lo j : ℕ) {t : Node} → IsNode F l (upto lo j) t → lo ≤ startOf F lo j → startOf F lo j < j → t .before ≡ upto lo (startOf F lo j)
+before-is F l lo j g a u = part-is _ _ _ (g .end) (g .n ∙ sub-sub j lo _ _ a u refl)
+
+module _ (F : List ℕ) (l : Layout) (lo j : ℕ) (w : Within F l (upto lo j)) (a : lo ≤ startOf F lo j) (u : startOf F lo j < j) (e : Each) (lp : Loop) where
+  tree-idle : Quiet F l (upto lo j) w (λ z. omega (arith, a, u, z)) e lp → Idle F e lp lo (startOf F lo j) j
+  tree-idle (s, q, n) =
+      let g = is-node F l (upto lo j) w refl in
+      let z : 0 < j - lo = omega (arith, a, u) in
+      let m = before-is F l lo j g a u in
+      let r : element (recOf F (nodeOf F l (upto lo j) .root)) ≡ meaning.statement = sym (ap (λ (x : Meaning). element (x .rec)) (kid-zero F l (upto lo j) g)) ∙ n in
+      record {
+        up = omega (arith, u);
+        same = λ f d v. rw (each-more F l (upto lo j) g z e lp f d, m, after-then) (one-quiet lp f d _ _ (kidAt F (upto lo j) 0) (listAt F (upto lo j) 0) q n e s _);
+        labels = let x = labels-more F l (upto lo j) g z in rw (m, r) at x ∙ add-zero _;
+        cases = let x = cases-more F l (upto lo j) g z in rw (m, r) at x ∙ add-zero _;
+      }
+
+-- the ends that are kept
+module _ (F : List ℕ) (l : Layout) (e : Each) (lp : Loop) (lo : ℕ) where
+  pub kept-same : (x y : List ℕ) (top q last : ℕ) → ((k : ℕ) → k < top → getD x k 0 ≡ getD y k 0) → Kept F l e lp lo x top q last → Kept F l e lp lo y top q last
+  unfolding Kept
+  kept-same x y zero q last h c = c
+  kept-same x y (suc u) q last h c =
+      let c′ = kept-same x y u (getD x u 0) last (λ k p. h k (omega arith)) (c .4) in
+      rw (← h u (omega arith)) (c .0, c .1, c .2, c .3, c′)
+
+  -- a tree that generates nothing stands before them
+  kept-skip : (x : List ℕ) (top q1 q last : ℕ) → Idle F e lp lo q1 q → Kept F l e lp lo x top q last → Kept F l e lp lo x top q1 last
+  unfolding Kept
+  kept-skip x zero q1 q last i c = idle-then i c
+  kept-skip x (suc u) q1 q last i c = (idle-then i (c .0), c .1, c .2, c .3, c .4)
+
+  -- one more
+  kept-push : (x : List ℕ) (top q last : ℕ) → top < length x → startOf F lo q < q → top + q ≤ last → Within F l (upto lo q) → Kept F l e lp lo x top q last
+      → Kept F l e lp lo (set x top q) (top + 1) (startOf F lo q) last
+  unfolding Kept
+  kept-push x top q last b u r w c =
+      let g : getD (set x top q) top 0 ≡ q = getD-set-same x top q 0 b in
+      let c′ = kept-same x (set x top q) top q last (λ k p. sym (getD-set-other x top k q 0 (omega arith))) c in
+      rw (add-one, g) (idle-none (startOf F lo q), u, r, w, c′)
+
+both-end : (e n lo s e1 n1 : ℕ) → e ≡ lo + n → s ≤ n → e1 ≡ e - s → n1 ≡ n - s → e1 ≡ lo + n1
+both-end e n lo s e1 n1 a b c d = omega arith
+
+both-less : (e n lo e1 n1 k : ℕ) → e ≡ lo + n → e1 ≡ lo + n1 → min 1 n + k + n1 ≤ n → (n ≡ 0 → ⊥) → e1 < e
+both-less e n lo e1 n1 k a b l h = omega arith
+
+less-left : (top n n0 k n1 r : ℕ) → min 1 n + k + n1 ≤ n → (n ≡ 0 → ⊥) → top + n ≤ n0 → r ≤ 1 → top + r + n1 ≤ n0
+less-left top n n0 k n1 r a h b c = omega arith
+
+same-part : (lo : ℕ) (g : Part) → g .end ≡ lo + g .n → upto lo (g .end) ≡ g
+same-part lo g e = let d : g .end - lo ≡ g .n = omega arith in rw d
+
+-- the loop: of the trees after g, which is a part of g0, the ends are in x
+pub record EndsInv (F : List ℕ) (l : Layout) (x0 : List ℕ) (breaks continues : Bool) (g0 : Part) (x : List ℕ) (g : Part) (top : ℕ) : Type 0 where
+  pub kept : (e : Each) (lp : Loop) → Lasting breaks continues e lp → Kept F l e lp (g0 .end - g0 .n) x top (g .end) (g0 .end)
+  pub end : g .end ≡ g0 .end - g0 .n + g .n
+  pub start : g0 .n ≤ g0 .end
+  pub within : Within F l g
+  pub less : top + g .n ≤ g0 .n
+  pub scratch : length x ≡ length x0
+  pub room : g0 .n ≤ length x0
+  pub small : g0 .n < 65536
+
+pub ends-start : (F : List ℕ) (l : Layout) (x : List ℕ) (breaks continues : Bool) (g : Part) → Within F l g → g .n ≤ length x → EndsInv F l x breaks continues g x g 0
+unfolding Kept
+ends-start F l x breaks continues g i r = record {
+  kept = λ e lp o. idle-none (g .end);
+  end = omega (arith, i .inside);
+  start = i .inside;
+  within = i;
+  less = omega arith;
+  scratch = refl;
+  room = r;
+  small = omega (arith, i .inside, i .known, i .sound .few);
+}
+
+few : (b : Bool) → cond {A = ℕ} b 0 1 ≤ 1
+few true = omega arith
+few false = omega arith
+
+module _ {F : List ℕ} {l : Layout} {x0 : List ℕ} {breaks continues : Bool} {g0 : Part} {x : List ℕ} {g : Part} {top : ℕ} (i : EndsInv F l x0 breaks continues g0 x g top) (h : g .n ≡ 0 → ⊥) where
+  pub ends-inside : top < length x
+  ends-inside = omega (arith, i .less, i .scratch, i .room)
+
+  node : IsNode F l g (nodeOf F l g)
+  node = is-node F l g (i .within) refl
+
+  abbrev lo : ℕ
+  lo = g0 .end - g0 .n
+
+  before-end : nodeOf F l g .before .end ≡ lo + nodeOf F l g .before .n
+  before-end = both-end _ _ _ _ _ _ (i .end) (span-le (rowsIn F) (g .end) (g .n)) (node .end) (node .n)
+
+  start-is : startOf F lo (g .end) ≡ nodeOf F l g .before .end
+  start-is = let d : g .end - lo ≡ g .n = omega (arith, i .end) in rw d (sym (node .end))
+
+  in-row : Within F l (upto lo (g .end))
+  in-row = rw (same-part lo g (i .end)) (i .within)
+
+  down : startOf F lo (g .end) < g .end
+  down = rw start-is (both-less _ _ _ _ _ _ (i .end) before-end (node .apart) h)
+
+  low : lo ≤ startOf F lo (g .end)
+  low = rw start-is (omega (arith, before-end))
+
+  step : (b : Bool) → leftOut (kindAt F l g) breaks continues ≡ b → (o : Each) (lp : Loop) → Lasting breaks continues o lp →
+      Kept F l o lp lo (set x top (g .end)) (top + cond b 0 1) (nodeOf F l g .before .end) (g0 .end)
+  step true q o lp a =
+      let k : leftOut (kindAt F l (upto lo (g .end))) breaks continues ≡ true = rw (same-part lo g (i .end)) q in
+      let t = tree-idle F l lo (g .end) in-row low down o lp (left-out-quiet F l (upto lo (g .end)) in-row (λ z. omega (arith, low, down, z)) o lp a k) in
+      let c = kept-same F l o lp lo x (set x top (g .end)) top (g .end) (g0 .end) (λ k p. sym (getD-set-other x top k (g .end) 0 (omega arith))) (i .kept o lp a) in
+      rw (add-zero top, ← start-is) (kept-skip F l o lp lo (set x top (g .end)) top _ (g .end) (g0 .end) t c)
+  step false q o lp a = rw (← start-is) (kept-push F l o lp lo x top (g .end) (g0 .end) ends-inside down (omega (arith, i .end, i .start, i .less)) in-row (i .kept o lp a))
+
+  next : EndsInv F l x0 breaks continues g0 (set x top (g .end)) (nodeOf F l g .before) (top + cond (leftOut (kindAt F l g) breaks continues) 0 1)
+  next = record {
+    kept = step (leftOut (kindAt F l g) breaks continues) refl;
+    end = before-end;
+    start = i .start;
+    within = node .rest-within;
+    less = less-left _ _ _ _ _ _ (node .apart) h (i .less) (few (leftOut (kindAt F l g) breaks continues));
+    scratch = rw length-set (i .scratch);
+    room = i .room;
+    small = i .small;
+  }
+
+  pub ends-again : {rest : Part} {r k : ℕ} → rest ≡ nodeOf F l g .before → k ≡ kindAt F l g → r ≡ cond (leftOut k breaks continues) 0 1 → EndsInv F l x0 breaks continues g0 (set x top (g .end)) rest (top + r)
+  ends-again e q n = rw (e, n, q) next
+
+  pub ends-few : (b : Bool) {r : ℕ} → r ≡ cond b 0 1 → top + r < 65536
+  ends-few b n = let a = few b in rw n (omega (arith, i .less, i .small))
+
+  pub ends-less : {rest : Part} → rest ≡ nodeOf F l g .before → rest .n < g .n
+  ends-less e = rw e (omega (arith, node .apart))
+
+pub ends-done : {F : List ℕ} {l : Layout} {x0 : List ℕ} {breaks continues : Bool} {g0 : Part} {x : List ℕ} {g : Part} {top : ℕ} → EndsInv F l x0 breaks continues g0 x g top → g .n ≡ 0 → (e : Each) (lp : Loop) →
+    breaks ≡ (isNowhere (lp .break-label) && ofStatements e) → continues ≡ (isNowhere (lp .continue-label) && ofStatements e) →
+    Kept F l e lp (g0 .end - g0 .n) x top (g0 .end - g0 .n) (g0 .end)
+ends-done {g0 = g0} {x} {g} {top} i z e lp a c =
+    let d : g .end ≡ g0 .end - g0 .n = omega (arith, i .end) in
+    rw d at (i .kept e lp (record { breaks-is = a; continues-is = c }))

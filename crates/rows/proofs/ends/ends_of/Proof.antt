@@ -1,0 +1,72 @@
+-- `ends_of` meets its contract.
+use borrow.Author.Needs.{needs}
+use native.Mathlib.Omega.{arith}
+use Rattle.rows.specs.Kept.{leftOut}
+use Rattle.rows.proofs.Kept.{EndsInv, ends-start, ends-inside, ends-few, ends-less, ends-again, ends-done}
+use Rattle.rows.proofs.ends.ends_of.Statement.{statement}
+use Rattle.rows.proofs.ends.ends_of.Tie as tie
+
+abbrev Inv-loop : tie.InvT-loop
+Inv-loop file l scratch₀ breaks continues left₀ top₀ scratch left top = EndsInv file l scratch₀ breaks continues left₀ scratch left top
+
+abbrev μ-loop : tie.MeasureT-loop
+μ-loop file l scratch₀ breaks continues left₀ top₀ scratch left top = left .n
+
+is-idle-requires : tie.Need-is-idle-requires Inv-loop μ-loop
+is-idle-requires c κs = search needs
+
+is-idle-requires-2 : tie.Need-is-idle-requires-2 Inv-loop μ-loop
+is-idle-requires-2 c κs = search needs
+
+loop-holds : tie.Need-loop-holds Inv-loop μ-loop
+loop-holds c = search (needs, ends-start)
+
+kind-at-requires : tie.Need-kind-at-requires Inv-loop μ-loop
+kind-at-requires c κs = search needs
+
+mul-scratch : tie.Need-mul-scratch Inv-loop μ-loop
+mul-scratch c = search needs
+
+slice-write-scratch : tie.Need-slice-write-scratch Inv-loop μ-loop
+slice-write-scratch c = search (needs, ends-inside)
+
+kept-requires : tie.Need-kept-requires Inv-loop μ-loop
+kept-requires c κs = search needs
+
+add-top : tie.Need-add-top Inv-loop μ-loop
+add-top c = omega (arith, ends-few (c .before .before .before .before .loop .inv) (c .before .before .if1 .taken) (leftOut (c .before .kind-at .result) (c .before .before .before .before .before .before .is-idle .result) (c .before .before .before .before .before .is-idle2 .result)) (c .kept .ensures))
+
+rest-of-requires : tie.Need-rest-of-requires Inv-loop μ-loop
+rest-of-requires c κs = search needs
+
+loop-less : tie.Need-loop-less Inv-loop μ-loop
+loop-less c = search (needs, ends-less)
+
+loop-again : tie.Need-loop-again Inv-loop μ-loop
+loop-again c = search (needs, ends-again)
+
+same-length : tie.Need-same-length Inv-loop μ-loop
+same-length c = search needs
+
+returns : tie.Need-returns Inv-loop μ-loop
+returns c = ends-done (c .before .before .loop .inv) (c .if1 .left) _ _ (c .before .before .before .before .is-idle .ensures) (c .before .before .before .is-idle2 .ensures)
+
+pub ends-of-spec : {M : Type 1} → statement M
+ends-of-spec =
+    tie.close
+    (tie.spec
+    Inv-loop
+    μ-loop
+    is-idle-requires
+    is-idle-requires-2
+    loop-holds
+    kind-at-requires
+    mul-scratch
+    slice-write-scratch
+    kept-requires
+    add-top
+    rest-of-requires
+    loop-less
+    loop-again
+    same-length
+    returns)

@@ -1,0 +1,58 @@
+-- Where the trees of a row end that are to be generated: all but some that generate nothing.
+use Prim.Native.Nat.{ℕ, zero, suc, _+_, _-_, _≤_, _<_}
+use mathlib.Core.Path.{_≡_}
+use mathlib.Core.Bool.{Bool, true, false, cond, _&&_}
+use mathlib.Core.List.{List}
+use mathlib.Core.Option.{Option, none, some}
+use lib.Dec.{eqb}
+use lib.ListN.{getD}
+use Rattle.script_records.specs.declared.layout.Layout.{Layout}
+use Rattle.script_records.specs.declared.part.Part.{Part}
+use Rattle.script_records.specs.Layout.{spanAt}
+use Rattle.lowering.specs.Meaning.{Loop}
+use Rattle.codegen_state.specs.View.{Held, after}
+use Rattle.tree.specs.Trees.{rowsIn}
+use Rattle.tree.specs.Within.{Within, meaningsAt}
+use Rattle.builder.specs.Labels.{labels-of}
+use Rattle.rows.specs.declared.Each.{Each}
+use Rattle.rows.specs.declared.Each.the-variants.{Expr, Discarded, Field, Statement, Hoisted, Unhoisted, Conditional, Element}
+use Rattle.rows.specs.Rows.{eachOf, cases-of}
+
+-- rows whose trees are generated as statements
+abbrev pub ofStatements : Each → Bool
+ofStatements Expr = false
+ofStatements Discarded = false
+ofStatements Field = false
+ofStatements Statement = true
+ofStatements Hoisted = true
+ofStatements Unhoisted = true
+ofStatements Conditional = false
+ofStatements Element = true
+
+abbrev pub isNowhere : Option ℕ → Bool
+isNowhere none = true
+isNowhere (some label) = false
+
+-- a Break (kind 8) or a Continue (kind 9), if such a one generates nothing
+abbrev pub leftOut : (kind : ℕ) → (breaks continues : Bool) → Bool
+leftOut kind breaks continues = cond (eqb kind 8) breaks (eqb kind 9 && continues)
+
+-- the trees that start at record lo and end before record e, and where the last of them starts
+abbrev pub upto : (lo e : ℕ) → Part
+upto lo e = record { end = e; n = e - lo }
+
+abbrev pub startOf : List ℕ → (lo e : ℕ) → ℕ
+startOf F lo e = e - spanAt (rowsIn F) e (e - lo)
+
+-- the trees from record q up to record s generate nothing and have no label
+pub record Idle (F : List ℕ) (e : Each) (lp : Loop) (lo q s : ℕ) : Type 0 where
+  pub up : q ≤ s
+  pub same : (f d : ℕ) (v : Held (Unit {0})) → after v (eachOf e lp f d (meaningsAt F (upto lo s))) ≡ after v (eachOf e lp f d (meaningsAt F (upto lo q)))
+  pub labels : labels-of (meaningsAt F (upto lo s)) ≡ labels-of (meaningsAt F (upto lo q))
+  pub cases : cases-of (meaningsAt F (upto lo s)) ≡ cases-of (meaningsAt F (upto lo q))
+
+-- of the trees from record q up to record `last`, x has the ends of `top`, the first on top, at top - 1; the others generate nothing
+unfoldable pub Kept : List ℕ → Layout → Each → Loop → (lo : ℕ) → List ℕ → (top q last : ℕ) → Type 0
+Kept F l e lp lo x zero q last = Idle F e lp lo q last
+Kept F l e lp lo x (suc u) q last =
+    Idle F e lp lo q (startOf F lo (getD x u 0)) × (startOf F lo (getD x u 0) < getD x u 0) × (u + getD x u 0 ≤ last) × Within F l (upto lo (getD x u 0)) × Kept F l e lp lo x u (getD x u 0) last
