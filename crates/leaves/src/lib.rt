@@ -22,8 +22,8 @@ ghost use Rattle.tree.specs.Trees.{recOf, isLabelled, isCase, meant};
 ghost use Rattle.tree.specs.Within.{Within, constant-named, target-named, record-named, meaningsAt, kidAt, listAt};
 ghost use Rattle.access.specs.Accesses.{accessOf};
 ghost use Rattle.rows.specs.Rows.{labelOf, any-hoisted};
+ghost use Rattle.leaves.specs.Args.{Args};
 use access::Access;
-use access::for_constant;
 use access::for_identifier;
 use access::get_and_set_value;
 use access::get_value;
@@ -40,6 +40,7 @@ use constants::push_string;
 use hir::Affix;
 use hir::ConstantKind;
 use hir::EnumeratorTarget;
+use hir::ExprKind;
 use hir::Record;
 use hir::StatementKind;
 use operators::shape::Shape;
@@ -68,7 +69,7 @@ pub fn assign_value(list: &mut [u32], b: CodeBuilder, discard: bool, access: Acc
     get_and_set_value(list, b, access)
 }
 
-// A constant as an expression.
+// A constant as an expression: a literal needs no access.
 pub fn read_constant(
     file: &[u8],
     l: Layout,
@@ -84,10 +85,62 @@ pub fn read_constant(
     ensures { λ r. ⌜ Does (now (file .entry)) (steps._>>=_ (access.for-constant (constantOver (stringAt (now (file .entry)) (layoutOf (now (file .entry)))) c)) access.get-value)
         b (now (list .entry)) tt r (now (list .exit)) ⌝ }
 {
-    let a = for_constant(file, l, list, b, c);
-    let b1 = a.b;
-    let access = a.access;
-    get_value(list, b1, access)
+    match c {
+        ConstantKind::String(s) => push_string(file, l, list, b, s),
+        ConstantKind::Identifier(s) => {
+            let a = for_identifier(file, l, list, b, s);
+            let b1 = a.b;
+            let access = a.access;
+            get_value(list, b1, access)
+        }
+        ConstantKind::Float(low, high) => push(list, b, PushValue::Float(low, high)),
+        ConstantKind::Integer(n) => push(list, b, PushValue::Integer(n)),
+        ConstantKind::Boolean(x) => push(list, b, PushValue::Boolean(x)),
+        ConstantKind::Register(r) => push(list, b, PushValue::Register(r)),
+    }
+}
+
+// A builder, and the trees that are still to be generated.
+pub struct Pushed {
+    pub b: CodeBuilder,
+    pub left: Part,
+}
+
+// Arguments run from the last to the first: the constants among the last of them are pushed here, without a call for each expression.
+pub fn push_constants(
+    file: &[u8],
+    l: Layout,
+    p: Part,
+    list: &mut [u32],
+    b: CodeBuilder,
+) -> Pushed
+    requires { ⌜ Fine b (now list) ⌝ }
+    requires { ⌜ Within (now file) l p ⌝ }
+    requires { ⌜ Named (now file) b (now list) ⌝ }
+    ensures { λ r. ⌜ Args (now (file .entry)) l (now (list .entry)) p b (now (list .exit)) (r .left) (r .b) ⌝ }
+{
+    let mut left = p;
+    let mut cur = b;
+    while left.n != 0 {
+        if cur.refused != 0 {
+            return Pushed { b: cur, left };
+        }
+        if kind_at(file, l, left) != 32 {
+            return Pushed { b: cur, left };
+        }
+        let t = node_at(file, l, left);
+        let root = t.root;
+        let Record::Expr(kind) = root else {
+            return Pushed { b: cur, left };
+        };
+        let ExprKind::Constant(c) = kind else {
+            return Pushed { b: cur, left };
+        };
+        cur = read_constant(file, l, list, cur, c);
+        let before = t.before;
+        left = before;
+    }
+    Pushed { b: cur, left }
 }
 
 // Break and Continue without a label emit nothing.
@@ -315,8 +368,10 @@ pub fn has_hoisted(file: &[u8], l: Layout, p: Part) -> bool
 {
     let mut left = p;
     while left.n != 0 {
-        if is_hoisted(file, l, left) {
-            return true;
+        if kind_at(file, l, left) == 3 {
+            if is_hoisted(file, l, left) {
+                return true;
+            }
         }
         let before = rest_of(file, l, left);
         left = before;
