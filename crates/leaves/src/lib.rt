@@ -107,40 +107,34 @@ pub struct Pushed {
 }
 
 // Arguments run from the last to the first: the constants among the last of them are pushed here, without a call for each expression.
-pub fn push_constants(
-    file: &[u8],
-    l: Layout,
-    p: Part,
-    list: &mut [u32],
-    b: CodeBuilder,
-) -> Pushed
+pub fn push_constants(file: &[u8], l: Layout, p: Part, list: &mut [u32], b: CodeBuilder) -> Pushed
     requires { ⌜ Fine b (now list) ⌝ }
     requires { ⌜ Within (now file) l p ⌝ }
     requires { ⌜ Named (now file) b (now list) ⌝ }
     ensures { λ r. ⌜ Args (now (file .entry)) l (now (list .entry)) p b (now (list .exit)) (r .left) (r .b) ⌝ }
 {
-    let mut left = p;
+    let mut rest = p;
     let mut cur = b;
-    while left.n != 0 {
+    while rest.n != 0 {
         if cur.refused != 0 {
-            return Pushed { b: cur, left };
+            return Pushed { b: cur, left: rest };
         }
-        if kind_at(file, l, left) != 32 {
-            return Pushed { b: cur, left };
+        if kind_at(file, l, rest) != 32 {
+            return Pushed { b: cur, left: rest };
         }
-        let t = node_at(file, l, left);
+        let t = node_at(file, l, rest);
         let root = t.root;
         let Record::Expr(kind) = root else {
-            return Pushed { b: cur, left };
+            return Pushed { b: cur, left: rest };
         };
         let ExprKind::Constant(c) = kind else {
-            return Pushed { b: cur, left };
+            return Pushed { b: cur, left: rest };
         };
         cur = read_constant(file, l, list, cur, c);
         let before = t.before;
-        left = before;
+        rest = before;
     }
-    Pushed { b: cur, left }
+    Pushed { b: cur, left: rest }
 }
 
 // Break and Continue without a label emit nothing.

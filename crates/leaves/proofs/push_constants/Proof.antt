@@ -8,10 +8,10 @@ use Rattle.leaves.proofs.push_constants.Statement.{statement}
 use Rattle.leaves.proofs.push_constants.Tie as tie
 
 abbrev Inv-loop : tie.InvT-loop
-Inv-loop file l list₀ left₀ cur₀ list left cur = Args file l list₀ left₀ cur₀ list left cur
+Inv-loop file l list₀ rest₀ cur₀ list rest cur = Args file l list₀ rest₀ cur₀ list rest cur
 
 abbrev μ-loop : tie.MeasureT-loop
-μ-loop file l list₀ left₀ cur₀ list left cur = left .n
+μ-loop file l list₀ rest₀ cur₀ list rest cur = rest .n
 
 loop-holds : tie.Need-loop-holds Inv-loop μ-loop
 loop-holds c = args-holds _ _ _ _ _ (c .before .before .pre .1 .0) (c .before .before .pre .0)
@@ -53,11 +53,16 @@ returns-4 : tie.Need-returns-4 Inv-loop μ-loop
 returns-4 c = search needs
 
 read-constant-requires : tie.Need-read-constant-requires Inv-loop μ-loop
-read-constant-requires c κs =
-    (c .before .before .before .before .before .before .before .before .before .before .before .before .before .before .loop .inv .fine,
-    (c .before .before .before .before .before .before .before .before .before .before .before .before .before .before .loop .inv .within .layout,
-    (c .before .before .before .before .before .before .before .before .before .before .before .before .before .before .loop .inv .within .sound .short,
-    (args-named (c .before .before .before .before .before .before .before .before .before .before .before .before .before .before .loop .inv) (c .before .before .before .before .before .before .before .node-at .ensures) (c .before .before .before .before .before .root .given .1) (c .before .before .kind .given .1), c .before .before .before .before .before .before .before .before .before .before .before .before .before .before .loop .inv .named (c .before .before .before .before .before .before .before .before .before .before .before .before .before .before .before .before .before .pre .1 .1)))))
+read-constant-requires c κs = (
+  c .before .before .before .before .before .before .before .before .before .before .before .before .before .before .loop .inv .fine,
+  (
+    c .before .before .before .before .before .before .before .before .before .before .before .before .before .before .loop .inv .within .layout,
+    (
+      c .before .before .before .before .before .before .before .before .before .before .before .before .before .before .loop .inv .within .sound .short,
+      (args-named (c .before .before .before .before .before .before .before .before .before .before .before .before .before .before .loop .inv) (c .before .before .before .before .before .before .before .node-at .ensures) (c .before .before .before .before .before .root .given .1) (c .before .before .kind .given .1), c .before .before .before .before .before .before .before .before .before .before .before .before .before .before .loop .inv .named (c .before .before .before .before .before .before .before .before .before .before .before .before .before .before .before .before .before .pre .1 .1)),
+    ),
+  ),
+)
 
 loop-less : tie.Need-loop-less Inv-loop μ-loop
 loop-less c = args-less (c .before .before .before .before .before .before .before .before .before .before .before .before .before .before .before .before .before .before .loop .inv) (c .before .before .before .before .before .before .before .before .before .before .before .before .before .before .before .before .if1 .taken) (ap (λ (t : Node). t .before) (c .before .before .before .before .before .before .before .before .before .before .before .node-at .ensures))
