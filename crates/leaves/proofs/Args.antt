@@ -1,6 +1,6 @@
 -- Arguments, from the last to the first, one expression at a time.
-use Prim.Native.Nat.{ℕ, _≤_, _<_}
-use mathlib.Core.Path.{_≡_, refl, ap, _∙_}
+use Prim.Native.Nat.{ℕ, _<_}
+use mathlib.Core.Path.{_≡_, refl, sym, ap, _∙_}
 use mathlib.Core.Bool.{Bool, false}
 use mathlib.Core.List.{List}
 use native.Mathlib.Omega.{arith}
@@ -13,7 +13,10 @@ use Rattle.hir.specs.declared.Record.the-variants as kind
 use Rattle.pcode.specs.Pcode.{Integer}
 use Rattle.script_records.specs.declared.layout.Layout.{Layout}
 use Rattle.script_records.specs.declared.part.Part.{Part}
-use Rattle.script_records.specs.Layout.{layoutOf, stringAt}
+use Rattle.script_records.specs.declared.part.Tree.{Tree}
+use Rattle.script_records.specs.Layout.{wordsOf, rowsOf, layoutOf, stringAt}
+use Rattle.script_records.specs.Parts.{lastTree}
+use Rattle.decode.specs.Decode.{constantOf, recordOf}
 use Rattle.script.specs.Resolve.{resolved, exprOver}
 use Rattle.lowering.specs.Builder.{_>>_, push}
 use Rattle.lowering.specs.Meaning.{Meaning, width}
@@ -21,12 +24,13 @@ use Rattle.lowering.specs.Statement.{meanings, expr, exprs-reversed, expr-of, g
 use Rattle.lowering.proofs.Laws.{width-law}
 use Rattle.codegen_state.specs.declared.CodeBuilder.{CodeBuilder}
 use Rattle.codegen_state.specs.View.{held, after}
-use Rattle.codegen_state.specs.Does.{Fine, Named, Does}
+use Rattle.codegen_state.specs.Does.{Fine, Does}
 use Rattle.codegen_state.proofs.Steps.{after-then, after-done, stays}
 use Rattle.tree.specs.declared.Node.{Node}
 use Rattle.tree.specs.Trees.{trees, recOf, nodeOf}
 use Rattle.tree.specs.Within.{Within, IsNode, constant-named, meaningsAt, kidAt}
-use Rattle.tree.proofs.Nodes.{is-node, trees-more, trees-none}
+use Rattle.tree.proofs.Nodes.{is-node, node-made, trees-more, trees-none}
+use Rattle.tree.proofs.ByKind.{rest-made}
 use Rattle.tree.proofs.Meanings.{kid-zero}
 use Rattle.leaves.specs.Args.{Args}
 use Rattle.leaves.proofs.Constants.{Reads}
@@ -84,10 +88,14 @@ module _ {F : List ℕ} {l : Layout} {w0 : List ℕ} {p : Part} {b0 : CodeBuilde
     named = λ v. o .named (i .named v);
   }
 
-  -- the last of those that are left is a constant
-  module _ {t : Node} (e : t ≡ nodeOf F l left) {k : ExprKind} (x : t .root ≡ kind.Expr k) {c : ConstantKind} (y : k ≡ expr-kind.Constant c) where
-    pub args-named : T (constant-named F c)
-    args-named = rw (x, y) at (is-node F l left (i .within) e .named)
+  -- a record of the kind 32 is a constant
+  module _ (z : left .n ≡ 0 → ⊥) {t : Tree} (e : t ≡ lastTree (rowsOf F l) left) (h : t .row .kind ≡ 32) {c : ConstantKind} (q : c ≡ constantOf (wordsOf (t .row))) where
+    root-is : nodeOf F l left .root ≡ kind.Expr (expr-kind.Constant c)
+    unfolding recordOf
+    root-is = ap (λ (n : Node). n .root) (sym (node-made F l left z e refl)) ∙ rw (q, h)
 
-    pub args-constant : {b1 : CodeBuilder} {w1 : List ℕ} → (left .n ≡ 0 → ⊥) → Reads F c b w b1 w1 → length w1 ≡ length w → Args F l w0 p b0 w1 (t .before) b1
-    args-constant z o q = args-again-at z e (rw (expr-at (is-node F l left (i .within) e) false x, y) o) q
+    pub args-named : T (constant-named F c)
+    args-named = rw root-is at (is-node F l left (i .within) refl .named)
+
+    pub args-constant : {b1 : CodeBuilder} {w1 : List ℕ} → Reads F c b w b1 w1 → length w1 ≡ length w → Args F l w0 p b0 w1 (t .before) b1
+    args-constant o k = args-again z (rest-made F l left z e) (rw (expr-at (is-node F l left (i .within) refl) false root-is) o) k

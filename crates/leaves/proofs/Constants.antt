@@ -1,7 +1,7 @@
 -- What a constant's steps do as an expression.
 use Prim.Native.Nat.{ℕ, _+_, _*_, _≤_}
 use mathlib.Core.Path.{_≡_}
-use mathlib.Core.Bool.{Bool, true, false}
+use mathlib.Core.Bool.{Bool}
 use mathlib.Core.List.{List}
 use lib.Dec.{T}
 use lib.IntN.{ℤ}
@@ -13,7 +13,7 @@ use Rattle.script_records.specs.Layout.{layoutOf, stringAt}
 use Rattle.decode.specs.Numbers.{unsigned}
 use Rattle.script.specs.Resolve.{constantOver}
 use Rattle.lowering.specs.Builder.{Step, _>>=_, push, push-string}
-use Rattle.lowering.specs.Access.{Access, Direct, Register, _gives_, boolean, for-identifier, for-constant, get-value}
+use Rattle.lowering.specs.Access.{Access, Direct, _gives_, boolean, for-identifier, for-constant, get-value}
 use Rattle.list_slice.specs.File.{textIn, namesString}
 use Rattle.codegen_state.specs.declared.CodeBuilder.{CodeBuilder}
 use Rattle.codegen_state.specs.Does.{Fine, Does}

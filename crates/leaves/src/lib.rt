@@ -37,10 +37,10 @@ use builder::builder::store_register;
 use builder::builder::to_word;
 use codegen_state::CodeBuilder;
 use constants::push_string;
+use decode::constant;
 use hir::Affix;
 use hir::ConstantKind;
 use hir::EnumeratorTarget;
-use hir::ExprKind;
 use hir::Record;
 use hir::StatementKind;
 use operators::shape::Shape;
@@ -51,6 +51,7 @@ use rows::Target;
 use script_records::layout::Layout;
 use script_records::layout::string;
 use script_records::part::Part;
+use script_records::part::last_tree;
 use tree::Counts;
 use tree::Element;
 use tree::kind_at;
@@ -119,17 +120,12 @@ pub fn push_constants(file: &[u8], l: Layout, p: Part, list: &mut [u32], b: Code
         if cur.refused != 0 {
             return Pushed { b: cur, left: rest };
         }
-        if kind_at(file, l, rest) != 32 {
+        let t = last_tree(file, l, rest);
+        let row = t.row;
+        if row.kind != 32 {
             return Pushed { b: cur, left: rest };
         }
-        let t = node_at(file, l, rest);
-        let root = t.root;
-        let Record::Expr(kind) = root else {
-            return Pushed { b: cur, left: rest };
-        };
-        let ExprKind::Constant(c) = kind else {
-            return Pushed { b: cur, left: rest };
-        };
+        let c = constant(row);
         cur = read_constant(file, l, list, cur, c);
         let before = t.before;
         rest = before;

@@ -1,7 +1,6 @@
 -- `push_constants` meets its contract.
-use mathlib.Core.Path.{ap}
 use borrow.Author.Needs.{needs}
-use Rattle.tree.specs.declared.Node.{Node}
+use Rattle.tree.proofs.ByKind.{rest-made}
 use Rattle.leaves.specs.Args.{Args}
 use Rattle.leaves.proofs.Args.{args-holds, args-less, args-named, args-constant}
 use Rattle.leaves.proofs.push_constants.Statement.{statement}
@@ -22,8 +21,8 @@ same-length c = search needs
 returns : tie.Need-returns Inv-loop μ-loop
 returns c = search needs
 
-kind-at-requires : tie.Need-kind-at-requires Inv-loop μ-loop
-kind-at-requires c κs = search needs
+last-tree-requires : tie.Need-last-tree-requires Inv-loop μ-loop
+last-tree-requires c κs = search needs
 
 same-length-2 : tie.Need-same-length-2 Inv-loop μ-loop
 same-length-2 c = search needs
@@ -31,50 +30,35 @@ same-length-2 c = search needs
 returns-2 : tie.Need-returns-2 Inv-loop μ-loop
 returns-2 c = search needs
 
-node-at-requires : tie.Need-node-at-requires Inv-loop μ-loop
-node-at-requires c κs = search needs
+constant-requires : tie.Need-constant-requires Inv-loop μ-loop
+constant-requires c κs = search needs
 
-enum-known-root : tie.Need-enum-known-root Inv-loop μ-loop
-enum-known-root c = search needs
+read-constant-requires : tie.Need-read-constant-requires Inv-loop μ-loop
+read-constant-requires c κs = (
+  c .before .before .before .before .before .before .before .before .before .before .loop .inv .fine,
+  (
+    c .before .before .before .before .before .before .before .before .before .before .loop .inv .within .layout,
+    (
+      c .before .before .before .before .before .before .before .before .before .before .loop .inv .within .sound .short,
+      (
+        args-named (c .before .before .before .before .before .before .before .before .before .before .loop .inv) (c .before .before .before .before .before .before .before .before .if1 .taken) (c .before .before .before .before .before .last-tree .ensures) (c .before .before .if3 .left) (c .before .constant .ensures),
+        c .before .before .before .before .before .before .before .before .before .before .loop .inv .named (c .before .before .before .before .before .before .before .before .before .before .before .before .before .pre .1 .1),
+      ),
+    ),
+  ),
+)
+
+loop-less : tie.Need-loop-less Inv-loop μ-loop
+loop-less c = args-less (c .before .before .before .before .before .before .before .before .before .before .before .before .before .before .loop .inv) (c .before .before .before .before .before .before .before .before .before .before .before .before .if1 .taken) (rest-made _ _ _ (c .before .before .before .before .before .before .before .before .before .before .before .before .if1 .taken) (c .before .before .before .before .before .before .before .before .before .last-tree .ensures))
+
+loop-again : tie.Need-loop-again Inv-loop μ-loop
+loop-again c = args-constant (c .before .before .before .before .before .before .before .before .before .before .before .before .before .before .loop .inv) (c .before .before .before .before .before .before .before .before .before .before .before .before .if1 .taken) (c .before .before .before .before .before .before .before .before .before .last-tree .ensures) (c .before .before .before .before .before .before .if3 .left) (c .before .before .before .before .before .constant .ensures) (c .before .before .before .read-constant .ensures) (c .before .before .before .read-constant .kept .1 .1 .0)
 
 same-length-3 : tie.Need-same-length-3 Inv-loop μ-loop
 same-length-3 c = search needs
 
 returns-3 : tie.Need-returns-3 Inv-loop μ-loop
 returns-3 c = search needs
-
-enum-known-kind : tie.Need-enum-known-kind Inv-loop μ-loop
-enum-known-kind c = search needs
-
-same-length-4 : tie.Need-same-length-4 Inv-loop μ-loop
-same-length-4 c = search needs
-
-returns-4 : tie.Need-returns-4 Inv-loop μ-loop
-returns-4 c = search needs
-
-read-constant-requires : tie.Need-read-constant-requires Inv-loop μ-loop
-read-constant-requires c κs = (
-  c .before .before .before .before .before .before .before .before .before .before .before .before .before .before .loop .inv .fine,
-  (
-    c .before .before .before .before .before .before .before .before .before .before .before .before .before .before .loop .inv .within .layout,
-    (
-      c .before .before .before .before .before .before .before .before .before .before .before .before .before .before .loop .inv .within .sound .short,
-      (args-named (c .before .before .before .before .before .before .before .before .before .before .before .before .before .before .loop .inv) (c .before .before .before .before .before .before .before .node-at .ensures) (c .before .before .before .before .before .root .given .1) (c .before .before .kind .given .1), c .before .before .before .before .before .before .before .before .before .before .before .before .before .before .loop .inv .named (c .before .before .before .before .before .before .before .before .before .before .before .before .before .before .before .before .before .pre .1 .1)),
-    ),
-  ),
-)
-
-loop-less : tie.Need-loop-less Inv-loop μ-loop
-loop-less c = args-less (c .before .before .before .before .before .before .before .before .before .before .before .before .before .before .before .before .before .before .loop .inv) (c .before .before .before .before .before .before .before .before .before .before .before .before .before .before .before .before .if1 .taken) (ap (λ (t : Node). t .before) (c .before .before .before .before .before .before .before .before .before .before .before .node-at .ensures))
-
-loop-again : tie.Need-loop-again Inv-loop μ-loop
-loop-again c = args-constant (c .before .before .before .before .before .before .before .before .before .before .before .before .before .before .before .before .before .before .loop .inv) (c .before .before .before .before .before .before .before .before .before .before .before .node-at .ensures) (c .before .before .before .before .before .before .before .before .before .root .given .1) (c .before .before .before .before .before .before .kind .given .1) (c .before .before .before .before .before .before .before .before .before .before .before .before .before .before .before .before .if1 .taken) (c .before .before .before .read-constant .ensures) (c .before .before .before .read-constant .kept .1 .1 .0)
-
-same-length-5 : tie.Need-same-length-5 Inv-loop μ-loop
-same-length-5 c = search needs
-
-returns-5 : tie.Need-returns-5 Inv-loop μ-loop
-returns-5 c = search needs
 
 pub push-constants-spec : {M : Type 1} → statement M
 push-constants-spec =
@@ -85,18 +69,12 @@ push-constants-spec =
     loop-holds
     same-length
     returns
-    kind-at-requires
+    last-tree-requires
     same-length-2
     returns-2
-    node-at-requires
-    enum-known-root
-    same-length-3
-    returns-3
-    enum-known-kind
-    same-length-4
-    returns-4
+    constant-requires
     read-constant-requires
     loop-less
     loop-again
-    same-length-5
-    returns-5)
+    same-length-3
+    returns-3)
