@@ -106,7 +106,7 @@ fn unary_operator(a: u32, b: u32) -> UnaryOperator
     }
 }
 
-fn constant(r: Row) -> ConstantKind
+pub fn constant(r: Row) -> ConstantKind
     ensures { λ k. ⌜ k ≡ constantOf (wordsOf r) ⌝ }
 {
     let a = r.a;

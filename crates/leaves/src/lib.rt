@@ -22,8 +22,8 @@ ghost use Rattle.tree.specs.Trees.{recOf, isLabelled, isCase, meant};
 ghost use Rattle.tree.specs.Within.{Within, constant-named, target-named, record-named, meaningsAt, kidAt, listAt};
 ghost use Rattle.access.specs.Accesses.{accessOf};
 ghost use Rattle.rows.specs.Rows.{labelOf, any-hoisted};
+ghost use Rattle.leaves.specs.Args.{Args};
 use access::Access;
-use access::for_constant;
 use access::for_identifier;
 use access::get_and_set_value;
 use access::get_value;
@@ -37,6 +37,7 @@ use builder::builder::store_register;
 use builder::builder::to_word;
 use codegen_state::CodeBuilder;
 use constants::push_string;
+use decode::constant;
 use hir::Affix;
 use hir::ConstantKind;
 use hir::EnumeratorTarget;
@@ -50,6 +51,7 @@ use rows::Target;
 use script_records::layout::Layout;
 use script_records::layout::string;
 use script_records::part::Part;
+use script_records::part::last_tree;
 use tree::Counts;
 use tree::Element;
 use tree::kind_at;
@@ -68,7 +70,7 @@ pub fn assign_value(list: &mut [u32], b: CodeBuilder, discard: bool, access: Acc
     get_and_set_value(list, b, access)
 }
 
-// A constant as an expression.
+// A constant as an expression: a literal needs no access.
 pub fn read_constant(
     file: &[u8],
     l: Layout,
@@ -84,10 +86,51 @@ pub fn read_constant(
     ensures { λ r. ⌜ Does (now (file .entry)) (steps._>>=_ (access.for-constant (constantOver (stringAt (now (file .entry)) (layoutOf (now (file .entry)))) c)) access.get-value)
         b (now (list .entry)) tt r (now (list .exit)) ⌝ }
 {
-    let a = for_constant(file, l, list, b, c);
-    let b1 = a.b;
-    let access = a.access;
-    get_value(list, b1, access)
+    match c {
+        ConstantKind::String(s) => push_string(file, l, list, b, s),
+        ConstantKind::Identifier(s) => {
+            let a = for_identifier(file, l, list, b, s);
+            let b1 = a.b;
+            let access = a.access;
+            get_value(list, b1, access)
+        }
+        ConstantKind::Float(low, high) => push(list, b, PushValue::Float(low, high)),
+        ConstantKind::Integer(n) => push(list, b, PushValue::Integer(n)),
+        ConstantKind::Boolean(x) => push(list, b, PushValue::Boolean(x)),
+        ConstantKind::Register(r) => push(list, b, PushValue::Register(r)),
+    }
+}
+
+// A builder, and the trees that are still to be generated.
+pub struct Pushed {
+    pub b: CodeBuilder,
+    pub left: Part,
+}
+
+// Arguments run from the last to the first: the constants among the last of them are pushed here, without a call for each expression.
+pub fn push_constants(file: &[u8], l: Layout, p: Part, list: &mut [u32], b: CodeBuilder) -> Pushed
+    requires { ⌜ Fine b (now list) ⌝ }
+    requires { ⌜ Within (now file) l p ⌝ }
+    requires { ⌜ Named (now file) b (now list) ⌝ }
+    ensures { λ r. ⌜ Args (now (file .entry)) l (now (list .entry)) p b (now (list .exit)) (r .left) (r .b) ⌝ }
+{
+    let mut rest = p;
+    let mut cur = b;
+    while rest.n != 0 {
+        if cur.refused != 0 {
+            return Pushed { b: cur, left: rest };
+        }
+        let t = last_tree(file, l, rest);
+        let row = t.row;
+        if row.kind != 32 {
+            return Pushed { b: cur, left: rest };
+        }
+        let c = constant(row);
+        cur = read_constant(file, l, list, cur, c);
+        let before = t.before;
+        rest = before;
+    }
+    Pushed { b: cur, left: rest }
 }
 
 // Break and Continue without a label emit nothing.
@@ -315,8 +358,10 @@ pub fn has_hoisted(file: &[u8], l: Layout, p: Part) -> bool
 {
     let mut left = p;
     while left.n != 0 {
-        if is_hoisted(file, l, left) {
-            return true;
+        if kind_at(file, l, left) == 3 {
+            if is_hoisted(file, l, left) {
+                return true;
+            }
         }
         let before = rest_of(file, l, left);
         left = before;

@@ -1,0 +1,101 @@
+-- Arguments, from the last to the first, one expression at a time.
+use Prim.Native.Nat.{ℕ, _<_}
+use mathlib.Core.Path.{_≡_, refl, sym, ap, _∙_}
+use mathlib.Core.Bool.{Bool, false}
+use mathlib.Core.List.{List}
+use native.Mathlib.Omega.{arith}
+use lib.Dec.{T}
+use lib.ListN.{length}
+use Rattle.hir.specs.declared.ConstantKind.{ConstantKind}
+use Rattle.hir.specs.declared.ExprKind.{ExprKind}
+use Rattle.hir.specs.declared.ExprKind.the-variants as expr-kind
+use Rattle.hir.specs.declared.Record.the-variants as kind
+use Rattle.pcode.specs.Pcode.{Integer}
+use Rattle.script_records.specs.declared.layout.Layout.{Layout}
+use Rattle.script_records.specs.declared.part.Part.{Part}
+use Rattle.script_records.specs.declared.part.Tree.{Tree}
+use Rattle.script_records.specs.Layout.{wordsOf, rowsOf, layoutOf, stringAt}
+use Rattle.script_records.specs.Parts.{lastTree}
+use Rattle.decode.specs.Decode.{constantOf, recordOf}
+use Rattle.script.specs.Resolve.{resolved, exprOver}
+use Rattle.lowering.specs.Builder.{_>>_, push}
+use Rattle.lowering.specs.Meaning.{Meaning, width}
+use Rattle.lowering.specs.Statement.{meanings, expr, exprs-reversed, expr-of, gen-expr, gen-arguments}
+use Rattle.lowering.proofs.Laws.{width-law}
+use Rattle.codegen_state.specs.declared.CodeBuilder.{CodeBuilder}
+use Rattle.codegen_state.specs.View.{held, after}
+use Rattle.codegen_state.specs.Does.{Fine, Does}
+use Rattle.codegen_state.proofs.Steps.{after-then, after-done, stays}
+use Rattle.tree.specs.declared.Node.{Node}
+use Rattle.tree.specs.Trees.{trees, recOf, nodeOf}
+use Rattle.tree.specs.Within.{Within, IsNode, constant-named, meaningsAt, kidAt}
+use Rattle.tree.proofs.Nodes.{is-node, node-made, trees-more, trees-none}
+use Rattle.tree.proofs.ByKind.{rest-made}
+use Rattle.tree.proofs.Meanings.{kid-zero}
+use Rattle.leaves.specs.Args.{Args}
+use Rattle.leaves.proofs.Constants.{Reads}
+
+-- what a part's last tree generates as an expression
+module _ {F : List ℕ} {l : Layout} {p : Part} {t : Node} (n : IsNode F l p t) where
+  pub expr-any : (d : Bool) → kidAt F p 0 .gen-expr d ≡ expr-of (recOf F (t .root)) (meaningsAt F (t .children)) d
+  expr-any d = ap (λ (m : Meaning). m .gen-expr d) (kid-zero F l p n)
+
+  pub expr-at : {k : ExprKind} (d : Bool) → t .root ≡ kind.Expr k → kidAt F p 0 .gen-expr d ≡ gen-expr (exprOver (stringAt F (layoutOf F)) k) (meaningsAt F (t .children)) d
+  unfolding resolved
+  expr-at d e = expr-any d ∙ rw e
+
+pub args-holds : (F : List ℕ) (l : Layout) (w : List ℕ) (p : Part) (b : CodeBuilder) → Within F l p → Fine b w → Args F l w p b w p b
+args-holds F l w p b i f = record { same = refl; fine = f; named = λ n. n; within = i; fewer = omega arith; list = refl }
+
+pub reversed-more : (F : List ℕ) (l : Layout) (p : Part) {t : Node} → IsNode F l p t → 0 < p .n → exprs-reversed (meaningsAt F p) ≡ expr (kidAt F p 0) >> exprs-reversed (meaningsAt F (t .before))
+unfolding meanings
+reversed-more F l p i h = rw (trees-more F l p i h)
+
+module _ {F : List ℕ} {l : Layout} {w0 : List ℕ} {p : Part} {b0 : CodeBuilder} {w : List ℕ} {left : Part} {b : CodeBuilder} (i : Args F l w0 p b0 w left b) where
+  args-again-at : (left .n ≡ 0 → ⊥) → {t : Node} → t ≡ nodeOf F l left → {b1 : CodeBuilder} {w1 : List ℕ} → Does F (kidAt F left 0 .gen-expr false) b w tt b1 w1 → length w1 ≡ length w →
+      Args F l w0 p b0 w1 (t .before) b1
+  args-again-at z {t} e {b1} {w1} o q =
+      let g = is-node F l left (i .within) e in
+      record {
+        same = rw (o .same, ← after-then (held F (tt {0}) b w) (expr (kidAt F left 0)) (exprs-reversed (meaningsAt F (t .before))), ← reversed-more F l left g (omega arith)) (i .same);
+        fine = o .fine;
+        named = λ n. o .named (i .named n);
+        within = g .rest-within;
+        fewer = omega (arith, g .apart, i .fewer);
+        list = q ∙ i .list;
+      }
+
+  pub args-again : (left .n ≡ 0 → ⊥) → {before : Part} → before ≡ nodeOf F l left .before → {b1 : CodeBuilder} {w1 : List ℕ} → Does F (kidAt F left 0 .gen-expr false) b w tt b1 w1 → length w1 ≡ length w →
+      Args F l w0 p b0 w1 before b1
+  args-again z e o q = rw e (args-again-at z {t = nodeOf F l left} refl o q)
+
+  pub args-less : (left .n ≡ 0 → ⊥) → {before : Part} → before ≡ nodeOf F l left .before → before .n < left .n
+  args-less z e = rw e (omega (arith, is-node F l left (i .within) refl .apart))
+
+  -- after a refusal nothing more is done
+  pub args-stopped : (b .refused ≡ 0 → ⊥) → Does F (gen-arguments (meaningsAt F p)) b0 w0 tt b w
+  args-stopped h = record {
+    same = rw (after-then, ← i .same, ← stays {F = F} {m = exprs-reversed (meaningsAt F left)} {a = tt {0}} h (i .fine) .same) (stays {F = F} h (i .fine) .same);
+    fine = i .fine;
+    named = i .named;
+  }
+
+  pub args-done : left .n ≡ 0 → (n : ℕ) → n ≡ width (trees F p) → {r : CodeBuilder} {w′ : List ℕ} → Does F (push (Integer n)) b w tt r w′ → Does F (gen-arguments (meaningsAt F p)) b0 w0 tt r w′
+  unfolding meanings
+  args-done z n e {r} {w′} o = record {
+    same = rw (width-law (trees F p), ← e, after-then, ← i .same, trees-none F left z, after-done (held F (tt {0}) b w), o .same);
+    fine = o .fine;
+    named = λ v. o .named (i .named v);
+  }
+
+  -- a record of the kind 32 is a constant
+  module _ (z : left .n ≡ 0 → ⊥) {t : Tree} (e : t ≡ lastTree (rowsOf F l) left) (h : t .row .kind ≡ 32) {c : ConstantKind} (q : c ≡ constantOf (wordsOf (t .row))) where
+    root-is : nodeOf F l left .root ≡ kind.Expr (expr-kind.Constant c)
+    unfolding recordOf
+    root-is = ap (λ (n : Node). n .root) (sym (node-made F l left z e refl)) ∙ rw (q, h)
+
+    pub args-named : T (constant-named F c)
+    args-named = rw root-is at (is-node F l left (i .within) refl .named)
+
+    pub args-constant : {b1 : CodeBuilder} {w1 : List ℕ} → Reads F c b w b1 w1 → length w1 ≡ length w → Args F l w0 p b0 w1 (t .before) b1
+    args-constant o k = args-again z (rest-made F l left z e) (rw (expr-at (is-node F l left (i .within) refl) false root-is) o) k
