@@ -47,6 +47,17 @@ module _ {F : List ℕ} {l : Layout} {p : Part} {t : Node} (n : IsNode F l p t) 
 pub args-holds : (F : List ℕ) (l : Layout) (w : List ℕ) (p : Part) (b : CodeBuilder) → Within F l p → Fine b w → Args F l w p b w p b
 args-holds F l w p b i f = record { same = refl; fine = f; named = λ n. n; within = i; fewer = omega arith; list = refl }
 
+pub args-then : {F : List ℕ} {l : Layout} {w0 : List ℕ} {p : Part} {b0 : CodeBuilder} {w1 : List ℕ} {middle : Part} {b1 : CodeBuilder} {w : List ℕ} {left : Part} {b : CodeBuilder} →
+    Args F l w0 p b0 w1 middle b1 → Args F l w1 middle b1 w left b → Args F l w0 p b0 w left b
+args-then i j = record {
+  same = j .same ∙ i .same;
+  fine = j .fine;
+  named = λ n. j .named (i .named n);
+  within = j .within;
+  fewer = omega (arith, i .fewer, j .fewer);
+  list = j .list ∙ i .list;
+}
+
 pub reversed-more : (F : List ℕ) (l : Layout) (p : Part) {t : Node} → IsNode F l p t → 0 < p .n → exprs-reversed (meaningsAt F p) ≡ expr (kidAt F p 0) >> exprs-reversed (meaningsAt F (t .before))
 unfolding meanings
 reversed-more F l p i h = rw (trees-more F l p i h)

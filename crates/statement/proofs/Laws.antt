@@ -48,6 +48,7 @@ use Rattle.operators.specs.Shapes.{rootShape, constantLiteral, shapeLiteral}
 use Rattle.operators.proofs.Shapes.{shape-named}
 use Rattle.builder.specs.Labels.{labels-of, elements-from}
 use Rattle.rows.specs.Rows.{cases-of}
+use Rattle.leaves.proofs.Args.{expr-any}
 use Rattle.statement.proofs.Rows.{has-case-is, has-label-is, labels-is, cases-is, default-is}
 
 module _ {F : List ℕ} {l : Layout} {p : Part} {t : Node} (n : IsNode F l p t) where
@@ -60,25 +61,18 @@ module _ {F : List ℕ} {l : Layout} {p : Part} {t : Node} (n : IsNode F l p t) 
 
   -- an expression, a statement, an access
 
-  expr-any : (d : Bool) → kidAt F p 0 .gen-expr d ≡ expr-of (recOf F (t .root)) (meaningsAt F (t .children)) d
-  expr-any d = ap (λ (m : Meaning). m .gen-expr d) (kid-zero F l p n)
-
-  pub expr-at : {k : ExprKind} (d : Bool) → t .root ≡ kind.Expr k → kidAt F p 0 .gen-expr d ≡ gen-expr (exprOver (stringAt F (layoutOf F)) k) (meaningsAt F (t .children)) d
-  unfolding resolved
-  expr-at d e = expr-any d ∙ rw e
-
   -- a Case or an object's field stands for its value
   pub case-at : (d : Bool) → t .root ≡ kind.Case → kidAt F p 0 .gen-expr d ≡ kidAt F (t .children) 0 .gen-expr d
   unfolding resolved
-  case-at d e = expr-any d ∙ rw e
+  case-at d e = expr-any n d ∙ rw e
 
   pub field-at : {k : ℕ} (d : Bool) → t .root ≡ kind.ObjectField k → kidAt F p 0 .gen-expr d ≡ kidAt F (t .children) 0 .gen-expr d
   unfolding resolved
-  field-at d e = expr-any d ∙ rw e
+  field-at d e = expr-any n d ∙ rw e
 
   -- a record that is no expression
   pub no-expr : (d : Bool) {r : Record} → t .root ≡ r → expr-of (recOf F r) (meaningsAt F (t .children)) d ≡ done → kidAt F p 0 .gen-expr d ≡ done
-  no-expr d e h = expr-any d ∙ rw e h
+  no-expr d e h = expr-any n d ∙ rw e h
 
   statement-any : (lp : Loop) → kidAt F p 0 .gen-statement lp ≡ statement-of (recOf F (t .root)) (meaningsAt F (t .children)) lp
   statement-any lp = ap (λ (m : Meaning). m .gen-statement lp) (kid-zero F l p n)

@@ -69,6 +69,7 @@ use leaves::name_of;
 use leaves::negate_float;
 use leaves::negate_integer;
 use leaves::play_if;
+use leaves::push_constants;
 use leaves::push_count;
 use leaves::push_if;
 use leaves::read_constant;
@@ -965,8 +966,9 @@ fn args(
     requires { ⌜ n ≡ width (trees (now file) p) ⌝ }
     ensures { λ r. ⌜ Does (now (file .entry)) (statement.gen-arguments (meaningsAt (now (file .entry)) p)) b (now (list .entry)) tt r (now (list .exit)) ⌝ }
 {
-    let mut left = p;
-    let mut cur = b;
+    let constants = push_constants(file, l, p, list, b);
+    let mut left = constants.left;
+    let mut cur = constants.b;
     while left.n != 0 {
         if cur.refused != 0 {
             return cur;
