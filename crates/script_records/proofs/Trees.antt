@@ -71,3 +71,8 @@ pub tree-made : (rs : List Row) (p : Part) {row : Row} {at s inner end n : ℕ} 
     → end ≡ p .end - s → n ≡ p .n - s → _≡_ {A = Tree} (record { row = row; children = record { end = at; n = inner }; before = record { end = end; n = n } }) (lastTree rs p)
 unfolding lastTree spanAt
 tree-made rs p a b c d e f = cc
+
+-- a tree of one record
+pub tree-one : (rs : List Row) (p : Part) {row : Row} {at n : ℕ} → at ≡ p .end - 1 → row ≡ rowIn rs at → row .size ≡ 1 → (p .n ≡ 0 → ⊥) → n ≡ p .n - 1
+    → _≡_ {A = Tree} (record { row = row; children = record { end = at; n = 0 }; before = record { end = at; n = n } }) (lastTree rs p)
+tree-one rs p {row} a b one some e = tree-made rs p {s = 1} a b (omega arith) refl a e

@@ -118,7 +118,7 @@ pub fn row_at(file: &[u8], l: Layout, i: usize) -> Row
     if file.len() < base {
         return no_row();
     }
-    if (file.len() - base) / 20 <= i {
+    if file.len() - base < 20 * i + 20 {
         return no_row();
     }
     let at = base + 20 * i;

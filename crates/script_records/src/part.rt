@@ -45,6 +45,17 @@ pub fn last_tree(file: &[u8], l: Layout, p: Part) -> Tree
 {
     let at = minus(p.end, 1);
     let row = crate::layout::row_at(file, l, at);
+    // A tree of one record, as most are: a branch lets the processor go on before the size is read.
+    if row.size == 1 {
+        if p.n != 0 {
+            let n = p.n - 1;
+            return Tree {
+                row,
+                children: Part { end: at, n: 0 },
+                before: Part { end: at, n },
+            };
+        }
+    }
     let s = span(row.size, p.n);
     let inner = minus(s, 1);
     let end = minus(p.end, s);

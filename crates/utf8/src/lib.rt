@@ -1,7 +1,7 @@
 ghost use mathlib.Core.Path.{_≡_};
 ghost use mathlib.Core.Bool.{true};
 ghost use mathlib.Core.List.{[]};
-ghost use Prim.Native.Nat.{_+_, _≤_};
+ghost use Prim.Native.Nat.{_+_, _-_, _%_, _≤_, _<_};
 ghost use lib.ListN.{length, drop};
 ghost use Rattle.utf8.specs.Utf8.{utf8, next, completes};
 ghost use Rattle.utf8.specs.State.{ranges, rangesAfter, completesAfter, Ascii};
@@ -59,14 +59,14 @@ fn next(owed: Owed, b: u8) -> Step
     taken(owed.tails - 1, 0x80, 0xBF)
 }
 
-// Whether the 32 bytes from a position on are ASCII. No byte ends the search, so that the compiler looks at many of them at once.
-fn is_ascii(s: &[u8], from: usize) -> bool
-    requires { ⌜ from + 32 ≤ length (now s) ⌝ }
-    ensures { λ r. ⌜ (r ≡ true → Ascii (now (s .entry)) from 32) ⌝ }
+// Whether so many bytes from a position on are ASCII. No byte ends the search, so that the compiler looks at many of them at once.
+fn is_ascii(s: &[u8], from: usize, size: usize) -> bool
+    requires { ⌜ from + size ≤ length (now s) ⌝ }
+    ensures { λ r. ⌜ (r ≡ true → Ascii (now (s .entry)) from size) ⌝ }
 {
     let mut most: u8 = 0;
     let mut i: usize = 0;
-    while i < 32 {
+    while i < size {
         let b = s[from + i];
         if most < b {
             most = b;
@@ -93,37 +93,54 @@ fn bytes(s: &[u8], owed: Owed, from: usize, to: usize) -> Step
     Step::Taken(state)
 }
 
-// The 32 bytes from a position on.
-fn block(s: &[u8], owed: Owed, from: usize) -> Step
-    requires { ⌜ from + 32 ≤ length (now s) ⌝ }
-    ensures { λ r. ⌜ completesAfter r (drop (from + 32) (now (s .entry))) ≡ completes (ranges owed) (drop from (now (s .entry))) ⌝ }
+// The bytes of one block: so many from a position on.
+fn block(s: &[u8], owed: Owed, from: usize, size: usize) -> Step
+    requires { ⌜ from + size ≤ length (now s) ⌝ }
+    ensures { λ r. ⌜ completesAfter r (drop (from + size) (now (s .entry))) ≡ completes (ranges owed) (drop from (now (s .entry))) ⌝ }
 {
     if owed.tails == 0 {
-        if is_ascii(s, from) {
+        if is_ascii(s, from, size) {
             return taken(0, 0x80, 0xBF);
         }
     }
-    bytes(s, owed, from, from + 32)
+    bytes(s, owed, from, from + size)
 }
 
-// Whether the bytes are UTF-8 (RFC 3629).
+// The bytes from one position up to another, in blocks of one size.
+fn blocks(s: &[u8], owed: Owed, from: usize, to: usize, size: usize) -> Step
+    requires { ⌜ (from ≤ to) × (to ≤ length (now s)) × (0 < size) × ((to - from) % size ≡ 0) ⌝ }
+    ensures { λ r. ⌜ completesAfter r (drop to (now (s .entry))) ≡ completes (ranges owed) (drop from (now (s .entry))) ⌝ }
+{
+    let mut state = owed;
+    let mut i = from;
+    while i < to {
+        match block(s, state, i, size) {
+            Step::Taken(rest) => state = rest,
+            Step::Refused => return Step::Refused,
+        }
+        i += size;
+    }
+    Step::Taken(state)
+}
+
+// Whether the bytes are UTF-8 (RFC 3629). Large blocks cost least for each byte, and small ones leave few single bytes.
 pub fn is_utf8(s: &[u8]) -> bool
     ensures { λ r. ⌜ r ≡ utf8 (now (s .entry)) ⌝ }
 {
-    let mut owed = Owed {
+    let owed = Owed {
         tails: 0,
         low: 0x80,
         high: 0xBF,
     };
-    let mut i: usize = 0;
-    while 32 <= s.len() - i {
-        match block(s, owed, i) {
-            Step::Taken(rest) => owed = rest,
-            Step::Refused => return false,
-        }
-        i += 32;
-    }
-    match bytes(s, owed, i, s.len()) {
+    let i = s.len() - s.len() % 256;
+    let Step::Taken(large) = blocks(s, owed, 0, i, 256) else {
+        return false;
+    };
+    let j = s.len() - s.len() % 32;
+    let Step::Taken(small) = blocks(s, large, i, j, 32) else {
+        return false;
+    };
+    match bytes(s, small, j, s.len()) {
         Step::Taken(rest) => rest.tails == 0,
         Step::Refused => false,
     }

@@ -12,7 +12,7 @@ taken-requires : tie.Need-taken-requires
 taken-requires c κs = search needs
 
 returns : tie.Need-returns
-returns c = ascii-block _ _ _ (c .before .before .before .before .before .before .pre) (c .before .before .before .if1 .taken) (c .before .before .is-ascii .ensures (c .before .if2 .taken)) (c .taken .ensures)
+returns c = ascii-block _ _ _ _ (c .before .before .before .before .before .before .pre) (c .before .before .before .if1 .taken) (c .before .before .is-ascii .ensures (c .before .if2 .taken)) (c .taken .ensures)
 
 add-bytes : tie.Need-add-bytes
 add-bytes c = search needs

@@ -11,10 +11,10 @@ use Rattle.utf8.proofs.is_ascii.Statement.{statement}
 use Rattle.utf8.proofs.is_ascii.Tie as tie
 
 abbrev Inv-loop : tie.InvT-loop
-Inv-loop s from most₀ i₀ most i = (i ≤ 32) × Most s from i most
+Inv-loop s from size most₀ i₀ most i = (i ≤ size) × Most s from i most
 
 abbrev μ-loop : tie.MeasureT-loop
-μ-loop s from most₀ i₀ most i = 32 - i
+μ-loop s from size most₀ i₀ most i = size - i
 
 loop-holds : tie.Need-loop-holds Inv-loop μ-loop
 loop-holds c = (omega arith, most-none _ _ _)

@@ -24,6 +24,12 @@ returns-2 c = c .no-row2 .ensures ∙ row-short _ _ _ (c .before .before .if1 .l
 sub-if3 : tie.Need-sub-if3
 sub-if3 c = search needs
 
+mul-if3 : tie.Need-mul-if3
+mul-if3 c = search needs
+
+add-if3 : tie.Need-add-if3
+add-if3 c = search needs
+
 no-row-requires-3 : tie.Need-no-row-requires-3
 no-row-requires-3 c κs = search needs
 
@@ -76,6 +82,8 @@ row-at-spec =
     no-row-requires-2
     returns-2
     sub-if3
+    mul-if3
+    add-if3
     no-row-requires-3
     returns-3
     mul-at

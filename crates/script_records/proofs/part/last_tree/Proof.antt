@@ -1,5 +1,6 @@
 -- `last_tree` meets its contract.
-use Rattle.script_records.proofs.Trees.{tree-made}
+use Rattle.script_records.proofs.Trees.{tree-made, tree-one}
+use mathlib.Core.Path.{refl}
 use borrow.Author.Needs.{needs}
 use Rattle.script_records.proofs.part.last_tree.Statement.{statement}
 use Rattle.script_records.proofs.part.last_tree.Tie as tie
@@ -9,6 +10,12 @@ minus-requires c κs = search needs
 
 row-at-requires : tie.Need-row-at-requires
 row-at-requires c κs = search needs
+
+sub-n : tie.Need-sub-n
+sub-n c = search needs
+
+returns : tie.Need-returns
+returns c = tree-one _ (c .before .before .before .before .before .before .before .before .args .p) (c .before .before .before .before .before .before .minus .ensures) (c .before .before .before .before .before .row-at .ensures) (c .before .before .before .if1 .taken) (c .before .if2 .taken) refl
 
 span-requires : tie.Need-span-requires
 span-requires c κs = search needs
@@ -22,8 +29,8 @@ minus-requires-3 c κs = search needs
 minus-requires-4 : tie.Need-minus-requires-4
 minus-requires-4 c κs = search needs
 
-returns : tie.Need-returns
-returns c = tree-made _ (c .before .before .before .before .before .before .before .args .p) (c .before .before .before .before .before .minus .ensures) (c .before .before .before .before .row-at .ensures) (c .before .before .before .span .ensures) (c .before .before .minus2 .ensures) (c .before .minus3 .ensures) (c .minus4 .ensures)
+returns-2 : tie.Need-returns-2
+returns-2 c = tree-made _ (c .before .before .before .before .before .before .before .before .before .args .p) (c .before .before .before .before .before .before .before .minus .ensures) (c .before .before .before .before .before .before .row-at .ensures) (c .before .before .before .span .ensures) (c .before .before .minus2 .ensures) (c .before .minus3 .ensures) (c .minus4 .ensures)
 
 pub last-tree-spec : {M : Type 1} → statement M
 last-tree-spec =
@@ -31,8 +38,10 @@ last-tree-spec =
     (tie.spec
     minus-requires
     row-at-requires
+    sub-n
+    returns
     span-requires
     minus-requires-2
     minus-requires-3
     minus-requires-4
-    returns)
+    returns-2)
