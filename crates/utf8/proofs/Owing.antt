@@ -4,21 +4,20 @@ use mathlib.Core.Path.{_≡_, refl, sym, _∙_}
 use mathlib.Core.Bool.{Bool, false, cond, and-false}
 use mathlib.Core.List.{List, [], _∷_}
 use mathlib.Core.Option.{none, some, Option·elim}
-use Prim.Native.Nat.{ℕ, zero, suc, _+_, _-_, _%_, _≤_, _<_}
-use native.Mathlib.Nat.{mod-eq-of-lt, mod-eq-sub-mod}
+use Prim.Native.Nat.{ℕ, zero, suc, _+_, _-_, _≤_, _<_}
 use native.Mathlib.Numerals.{add-one}
 use native.Mathlib.Omega.{arith}
-use lib.Dec.{ltb, eqb, eqb·suc-zero}
+use lib.Dec.{eqb, eqb·suc-zero}
 use lib.ListN.{length, getD, drop, replicate, drop-of-length-le}
 use lib.Seq.{drop-cons}
 use borrow.Author.Count.{below-none, below-more}
-use borrow.Author.Tests.{le-leb, lt-leb, ltb-true, ltb-false}
+use borrow.Author.Tests.{le-leb, lt-leb}
 use Rattle.utf8.specs.Utf8.{Range, _to_, tail, inRange, next, completes, utf8}
 use Rattle.utf8.specs.State.{rangesFrom, ranges, rangesAfter, completesAfter, Ascii}
 use Rattle.utf8.specs.declared.Owed.{Owed}
 use Rattle.utf8.specs.declared.Step.{Step}
 use Rattle.utf8.specs.declared.Step.the-variants.{Taken, Refused}
-use Rattle.utf8.proofs.Forms.{by-test, starts}
+use Rattle.utf8.proofs.Forms.{starts}
 
 tails : (n : ℕ) → rangesFrom n tail ≡ replicate n tail
 tails zero = refl
@@ -88,24 +87,6 @@ module _ {s : List ℕ} {w : Bool} {o : Owed} {i : ℕ} (v : Read s w o i) where
     pub part-all : {o′ : Owed} → r ≡ Taken o′ → length s ≤ end → eqb (o′ .tails) 0 ≡ w
     part-all {o′} p h = at-end (o′ .tails) (o′ .low to o′ .high) ∙ sym (rw (drop-of-length-le s {i = end} h)) ∙ (rw p at e) ∙ v .rest
 
--- whole blocks from one position up to another
-pub record Blocks (i end size : ℕ) : Type 0 where
-  pub within : i ≤ end
-  pub whole : (end - i) % size ≡ 0
-
-module _ {i end size : ℕ} (v : Blocks i end size) (more : i < end) where
-  pub block-fits : i + size ≤ end
-  block-fits =
-      by-test (ltb (end - i) size)
-      (λ t. let e = mod-eq-of-lt {n = end - i} {m = size} (omega (arith, ltb-true)) in let w = v .whole in absurd (omega arith))
-      (λ t. omega (arith, ltb-false))
-
-  pub block-next : Blocks (i + size) end size
-  block-next =
-      let f = block-fits in
-      let e : end - (i + size) ≡ end - i - size = omega arith in
-      record { within = f; whole = rw e (sym (mod-eq-sub-mod {n = end - i} {m = size} (omega arith)) ∙ v .whole) }
-
 -- the n bytes from a position on are m at most
 pub record Most (s : List ℕ) (from n m : ℕ) : Type 0 where
   pub each : (k : ℕ) → k < n → getD s (from + k) 0 ≤ m
@@ -121,12 +102,11 @@ ascii-byte : (s : List ℕ) (i : ℕ) → i < length s → getD s i 0 < 0x80 →
 unfolding completes Option·elim
 ascii-byte s i h b = rw (drop-cons s i 0 h, starts 0 0x7F {b = getD s i 0} (omega arith) (omega arith) (some []) refl)
 
-pub ascii-run : (s : List ℕ) (from n : ℕ) → from + n ≤ length s → Ascii s from n → completes [] (drop (from + n) s) ≡ completes [] (drop from s)
+ascii-run : (s : List ℕ) (from n : ℕ) → from + n ≤ length s → Ascii s from n → completes [] (drop (from + n) s) ≡ completes [] (drop from s)
 ascii-run s from zero h a = let e : from + 0 ≡ from = omega arith in rw e
 ascii-run s from (suc n) h a =
     let e : from + suc n ≡ suc (from + n) = omega arith in
     rw e (ascii-byte s (from + n) (omega arith) (a n (omega arith)) ∙ ascii-run s from n (omega arith) (λ k l. a k (omega arith)))
 
-pub ascii-block : (s : List ℕ) (from n : ℕ) (o : Owed) {r : Step} → from + n ≤ length s → o .tails ≡ 0 → Ascii s from n
-    → r ≡ Taken (record { tails = 0; low = 0x80; high = 0xBF }) → completesAfter r (drop (from + n) s) ≡ completes (ranges o) (drop from s)
-ascii-block s from n o h e a p = rw (p, e) (ascii-run s from n h a)
+pub ascii-owing : (s : List ℕ) (from n : ℕ) (o : Owed) → from + n ≤ length s → o .tails ≡ 0 → Ascii s from n → completes (ranges o) (drop (from + n) s) ≡ completes (ranges o) (drop from s)
+ascii-owing s from n o h e a = rw e (ascii-run s from n h a)

@@ -1,7 +1,7 @@
 ghost use mathlib.Core.Path.{_≡_};
 ghost use mathlib.Core.Bool.{true};
 ghost use mathlib.Core.List.{[]};
-ghost use Prim.Native.Nat.{_+_, _-_, _%_, _≤_, _<_};
+ghost use Prim.Native.Nat.{_+_, _≤_};
 ghost use lib.ListN.{length, drop};
 ghost use Rattle.utf8.specs.Utf8.{utf8, next, completes};
 ghost use Rattle.utf8.specs.State.{ranges, rangesAfter, completesAfter, Ascii};
@@ -76,6 +76,17 @@ fn is_ascii(s: &[u8], from: usize, size: usize) -> bool
     most < 0x80
 }
 
+// Whether nothing is owed and so many bytes from a position on are ASCII: then nothing is owed after them.
+fn is_plain(s: &[u8], owed: Owed, from: usize, size: usize) -> bool
+    requires { ⌜ from + size ≤ length (now s) ⌝ }
+    ensures { λ r. ⌜ (r ≡ true → completes (ranges owed) (drop (from + size) (now (s .entry))) ≡ completes (ranges owed) (drop from (now (s .entry)))) ⌝ }
+{
+    if owed.tails != 0 {
+        return false;
+    }
+    is_ascii(s, from, size)
+}
+
 // The bytes from one position up to another, one after the other.
 fn bytes(s: &[u8], owed: Owed, from: usize, to: usize) -> Step
     requires { ⌜ (from ≤ to) × (to ≤ length (now s)) ⌝ }
@@ -93,54 +104,63 @@ fn bytes(s: &[u8], owed: Owed, from: usize, to: usize) -> Step
     Step::Taken(state)
 }
 
-// The bytes of one block: so many from a position on.
+// So many bytes from a position on; where they are not all ASCII, one after the other.
 fn block(s: &[u8], owed: Owed, from: usize, size: usize) -> Step
     requires { ⌜ from + size ≤ length (now s) ⌝ }
     ensures { λ r. ⌜ completesAfter r (drop (from + size) (now (s .entry))) ≡ completes (ranges owed) (drop from (now (s .entry))) ⌝ }
 {
-    if owed.tails == 0 {
-        if is_ascii(s, from, size) {
-            return taken(0, 0x80, 0xBF);
-        }
+    if is_plain(s, owed, from, size) {
+        return Step::Taken(owed);
     }
     bytes(s, owed, from, from + size)
 }
 
-// The bytes from one position up to another, in blocks of one size.
-fn blocks(s: &[u8], owed: Owed, from: usize, to: usize, size: usize) -> Step
-    requires { ⌜ (from ≤ to) × (to ≤ length (now s)) × (0 < size) × ((to - from) % size ≡ 0) ⌝ }
+// The bytes from one position up to another, in blocks of 32 and one of the rest.
+fn blocks(s: &[u8], owed: Owed, from: usize, to: usize) -> Step
+    requires { ⌜ (from ≤ to) × (to ≤ length (now s)) ⌝ }
     ensures { λ r. ⌜ completesAfter r (drop to (now (s .entry))) ≡ completes (ranges owed) (drop from (now (s .entry))) ⌝ }
 {
     let mut state = owed;
     let mut i = from;
-    while i < to {
-        match block(s, state, i, size) {
+    while 32 <= to - i {
+        match block(s, state, i, 32) {
             Step::Taken(rest) => state = rest,
             Step::Refused => return Step::Refused,
         }
-        i += size;
+        i += 32;
     }
-    Step::Taken(state)
+    block(s, state, i, to - i)
 }
 
-// Whether the bytes are UTF-8 (RFC 3629). Large blocks cost least for each byte, and small ones leave few single bytes.
+// So many bytes from a position on; where they are not all ASCII, in blocks of 32.
+fn wide_block(s: &[u8], owed: Owed, from: usize, size: usize) -> Step
+    requires { ⌜ from + size ≤ length (now s) ⌝ }
+    ensures { λ r. ⌜ completesAfter r (drop (from + size) (now (s .entry))) ≡ completes (ranges owed) (drop from (now (s .entry))) ⌝ }
+{
+    if is_plain(s, owed, from, size) {
+        return Step::Taken(owed);
+    }
+    blocks(s, owed, from, from + size)
+}
+
+// Whether the bytes are UTF-8 (RFC 3629). Wide blocks cost least for each byte of ASCII, and the small ones keep most of it quick where other chars stand among it.
 pub fn is_utf8(s: &[u8]) -> bool
     ensures { λ r. ⌜ r ≡ utf8 (now (s .entry)) ⌝ }
 {
-    let owed = Owed {
+    let mut owed = Owed {
         tails: 0,
         low: 0x80,
         high: 0xBF,
     };
-    let i = s.len() - s.len() % 256;
-    let Step::Taken(large) = blocks(s, owed, 0, i, 256) else {
-        return false;
-    };
-    let j = s.len() - s.len() % 32;
-    let Step::Taken(small) = blocks(s, large, i, j, 32) else {
-        return false;
-    };
-    match bytes(s, small, j, s.len()) {
+    let mut i: usize = 0;
+    while 256 <= s.len() - i {
+        match wide_block(s, owed, i, 256) {
+            Step::Taken(rest) => owed = rest,
+            Step::Refused => return false,
+        }
+        i += 256;
+    }
+    match wide_block(s, owed, i, s.len() - i) {
         Step::Taken(rest) => rest.tails == 0,
         Step::Refused => false,
     }
