@@ -48,7 +48,7 @@ use Rattle.operators.specs.Shapes.{rootShape, constantLiteral, shapeLiteral}
 use Rattle.operators.proofs.Shapes.{shape-named}
 use Rattle.builder.specs.Labels.{labels-of, elements-from}
 use Rattle.rows.specs.Rows.{cases-of}
-use Rattle.leaves.proofs.Args.{expr-any}
+use Rattle.leaves.proofs.Args.{expr-any, expr-at}
 use Rattle.statement.proofs.Rows.{has-case-is, has-label-is, labels-is, cases-is, default-is}
 
 module _ {F : List ℕ} {l : Layout} {p : Part} {t : Node} (n : IsNode F l p t) where
@@ -86,7 +86,7 @@ module _ {F : List ℕ} {l : Layout} {p : Part} {t : Node} (n : IsNode F l p t) 
   no-statement lp e h = statement-any lp ∙ rw e h
 
   pub access-at : kidAt F p 0 .for-expr ≡ for-shape (shapeOf (recOf F (t .root))) (meaningsAt F (t .children)) (kidAt F p 0 .gen-expr false)
-  access-at = ap (λ (m : Meaning). m .for-expr) (kid-zero F l p n) ∙ ap (λ (s : Step). for-shape (shapeOf (recOf F (t .root))) (meaningsAt F (t .children)) s) (sym (expr-any false))
+  access-at = ap (λ (m : Meaning). m .for-expr) (kid-zero F l p n) ∙ ap (λ (s : Step). for-shape (shapeOf (recOf F (t .root))) (meaningsAt F (t .children)) s) (sym (expr-any n false))
 
   pub literal-of : literal (shapeOf (kidAt F p 0 .rec)) ≡ literal (shapeOf (recOf F (t .root)))
   literal-of = ap (λ (r : Rec). literal (shapeOf r)) rec-is

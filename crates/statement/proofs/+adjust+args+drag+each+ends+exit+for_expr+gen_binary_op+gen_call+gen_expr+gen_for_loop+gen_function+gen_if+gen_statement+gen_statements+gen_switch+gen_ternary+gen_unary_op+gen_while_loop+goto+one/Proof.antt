@@ -26,9 +26,11 @@ use Rattle.builder.specs.Labels.{labels-of}
 use Rattle.builder.proofs.Body.{begun-fine, begun-named, ready, function-done}
 use Rattle.access.proofs.Texts.{text-is}
 use Rattle.rows.specs.Rows.{loopOf}
+use Rattle.leaves.specs.Args.{Args}
+use Rattle.leaves.proofs.Args.{expr-at, args-holds, args-then, args-again, args-less, args-stopped, args-done}
 use Rattle.rows.specs.Kept.{Kept}
-use Rattle.statement.proofs.Laws.{rec-is, element-at, expr-at, case-at, field-at, no-expr, statement-at, no-statement, access-at, literal-of, none-at, labels-counted, cases-counted, labels-less, default-less, switching, no-labels, some-labels, function-at, function-size, literal-named, field-live, number-less, rank-least, rank-most, rank-kept}
-use Rattle.statement.proofs.Lists.{PopInv, pop-holds, pop-top, pop-inside, pop-fits, pop-below, pop-few, pop-again, pop-stopped, pop-done, element-few, ArgsInv, args-holds, args-again, args-less, args-stopped, args-done}
+use Rattle.statement.proofs.Laws.{rec-is, element-at, case-at, field-at, no-expr, statement-at, no-statement, access-at, literal-of, none-at, labels-counted, cases-counted, labels-less, default-less, switching, no-labels, some-labels, function-at, function-size, literal-named, field-live, number-less, rank-least, rank-most, rank-kept}
+use Rattle.statement.proofs.Lists.{PopInv, pop-holds, pop-top, pop-inside, pop-fits, pop-below, pop-few, pop-again, pop-stopped, pop-done, element-few}
 use Rattle.statement.proofs.Arms.{statements-arm, unhoisted-arm, field-arm, test-arm, block-arm, local-arm, local-none-arm, no-values-arm, values-arm, switch-arm, switch-cases-arm, no-tests-arm, tests-arm, while-arm, for-in-arm, for-loop-arm, ends-arm, if-both-arm, if-one-arm, void-arm, trivial-arm, trivial-not-arm, trivial-assign-arm, assign-arm, and-arm, or-arm, bit-not-arm, not-arm, minus-arm, adjust-arm, kept-arm, delete-arm, ternary-arm, array-arm, object-arm, copy-arm, goto-label-arm, goto-frame-arm, goto-arm, drag-arm, drag-within-arm, get-property-arm, set-property-arm, call-arm, new-arm, direct-arm, object-access-arm}
 use mir.ValLaws.{toZ-ofZ}
 use mir.Syntax.{w32}
@@ -139,6 +141,7 @@ use Rattle.leaves.proofs.name_of.Reads as name-of-reads
 use Rattle.leaves.proofs.negate_float.Reads as negate-float-reads
 use Rattle.leaves.proofs.negate_integer.Reads as negate-integer-reads
 use Rattle.leaves.proofs.play_if.Reads as play-if-reads
+use Rattle.leaves.proofs.push_constants.Reads as push-constants-reads
 use Rattle.leaves.proofs.push_count.Reads as push-count-reads
 use Rattle.leaves.proofs.push_if.Reads as push-if-reads
 use Rattle.leaves.proofs.read_constant.Reads as read-constant-reads
@@ -464,49 +467,52 @@ adjust-returns-2 : (t : ℕ) → adjust-lts.Need-returns-2 (adjust-calls t) (adj
 adjust-returns-2 t c = adjust-arm (c .before .before .before .before .before .before .before .before .before .before .before .before .before .before .before .before .before .before .before .before .before .before .before .before .before .before .before .before .before .before .before .before .before .before .args .l) (c .before .before .before .before .before .before .before .before .before .before .before .before .before .before .before .before .before .before .before .before .before .before .before .before .before .before .before .before .before .before .before .before .before .before .args .p) (c .before .before .before .before .before .before .before .before .before .before .before .before .before .before .before .before .before .before .before .before .before .before .before .before .before .before .before .before .before .before .before .before .before .before .args .o) (c .before .before .before .before .before .before .before .before .before .before .before .before .before .before .before .before .before .before .before .before .before .before .before .before .before .before .before .before .before .before .before .before .before .before .args .affix) (c .before .before .before .before .before .before .before .before .before .before .before .before .before .before .before .before .before .before .before .before .before .before .before .before .before .before .before .before .before .before .before .before .before .before .args .discard) (c .before .before .before .before .before .before .before .before .before .before .before .before .before .before .before .before .before .before .before .before .before .before .before .before .before .before .before .before .before .before .keeps-old .ensures) (c .before .before .before .before .before .before .before .before .before .before .before .before .before .before .before .before .before .before .before .before .before .before .before .before .before .before .before .before .before .if1 .left) ((c .before .before .before .before .before .before .before .before .before .before .before .before .before .before .before .before .before .before .before .before .before .before .before .before .before .before .before .before .before .before .before .before .before .before .pre .1) .fine) (c .before .before .before .before .before .before .before .before .before .before .before .before .before .before .before .before .before .before .before .before .before .before .before .before .before .for-expr2 .ensures) (c .before .before .before .before .before .before .before .before .before .before .before .before .before .before .before .before .before .for-expr3 .ensures) (c .before .before .before .before .before .before .before .before .before .before .get-value2 .ensures (now (c .before .before .before .before .before .before .before .before .before .before .before .before .before .before .before .before .before .before .before .before .before .before .before .before .before .before .before .before .before .before .before .before .before .before .args .file))) (c .before .before .before .before .before .before .action .ensures (now (c .before .before .before .before .before .before .before .before .before .before .before .before .before .before .before .before .before .before .before .before .before .before .before .before .before .before .before .before .before .before .before .before .before .before .args .file))) (rw (c .before .before .before .before .before .before .before .before .before .before .before .before .before .before .before .before .before .before .before .before .before .before .before .before .before .before .before .before .leaves-none .ensures) at (c .before .before .assign-value .ensures (now (c .before .before .before .before .before .before .before .before .before .before .before .before .before .before .before .before .before .before .before .before .before .before .before .before .before .before .before .before .before .before .before .before .before .before .args .file))))
 
 abbrev args-Inv-loop : args-lts.InvT-loop
-args-Inv-loop file l list₀ scratch₀ n left₀ cur₀ list scratch left cur = ArgsInv file l list₀ scratch₀ left₀ cur₀ list scratch left cur
+args-Inv-loop file l list₀ scratch₀ n left₀ cur₀ list scratch left cur = Args file l list₀ left₀ cur₀ list left cur × (length scratch ≡ length scratch₀)
 
 abbrev args-μ-loop : args-lts.MeasureT-loop
 args-μ-loop file l list₀ scratch₀ n left₀ cur₀ list scratch left cur = left .n
 
 abbrev args-calls : ℕ → args-lts.Claims
-args-calls t = (gen-expr-below t, gen-expr.Post, rest-of-reads.Asked, rest-of-reads.Learnt, push-count-reads.Asked, push-count-reads.Learnt)
+args-calls t = (push-constants-reads.Asked, push-constants-reads.Learnt, gen-expr-below t, gen-expr.Post, rest-of-reads.Asked, rest-of-reads.Learnt, push-count-reads.Asked, push-count-reads.Learnt)
+
+args-push-constants-requires : (t : ℕ) → args-lts.Need-push-constants-requires (args-calls t) (args-at t) args.Post args-Inv-loop args-μ-loop
+args-push-constants-requires t c κs = ((c .before .before .before .before .pre .1 .0) .fine, ((c .before .before .before .before .pre .1 .0) .within, (c .before .before .before .before .pre .1 .0) .named))
 
 args-loop-holds : (t : ℕ) → args-lts.Need-loop-holds (args-calls t) (args-at t) args.Post args-Inv-loop args-μ-loop
-args-loop-holds t c = args-holds _ _ _ _ _ _ ((c .before .before .before .pre .1 .0) .within) ((c .before .before .before .pre .1 .0) .fine) ((c .before .before .before .pre .1 .0) .fits)
+args-loop-holds t c = (args-holds _ _ _ _ _ (c .before .before .before .before .push-constants .ensures .within) (c .before .before .before .before .push-constants .ensures .fine), refl)
 
 args-same-length : (t : ℕ) → args-lts.Need-same-length (args-calls t) (args-at t) args.Post args-Inv-loop args-μ-loop
-args-same-length t c = c .before .before .before .before .loop .inv .list
+args-same-length t c = c .before .before .before .before .loop .inv .0 .list ∙ c .before .before .before .before .before .before .before .before .before .push-constants .ensures .list
 
 args-same-length-2 : (t : ℕ) → args-lts.Need-same-length-2 (args-calls t) (args-at t) args.Post args-Inv-loop args-μ-loop
-args-same-length-2 t c = c .before .before .before .before .loop .inv .scratch
+args-same-length-2 t c = c .before .before .before .before .loop .inv .1
 
 args-returns : (t : ℕ) → args-lts.Need-returns (args-calls t) (args-at t) args.Post args-Inv-loop args-μ-loop
-args-returns t c = args-stopped (c .before .before .before .before .loop .inv) (c .if2 .taken)
+args-returns t c = args-stopped (args-then (c .before .before .before .before .before .before .before .before .before .push-constants .ensures) (c .before .before .before .before .loop .inv .0)) (c .if2 .taken)
 
 args-gen-expr-requires : (t : ℕ) → args-lts.Need-gen-expr-requires (args-calls t) (args-at t) args.Post args-Inv-loop args-μ-loop
-args-gen-expr-requires t c κs = (omega (arith, c .before .before .before .before .before .before .before .before .before .before .pre .0, c .before .before .before .before .before .before .loop .inv .fewer), record { within = c .before .before .before .before .before .before .loop .inv .within; fits = omega (arith, c .before .before .before .before .before .before .loop .inv .fewer, c .before .before .before .before .before .before .loop .inv .room, c .before .before .before .before .before .before .loop .inv .scratch); fine = (c .before .before .before .before .before .before .loop .inv .fine); named = (c .before .before .before .before .before .before .loop .inv .named ((c .before .before .before .before .before .before .before .before .before .before .pre .1 .0) .named)) })
+args-gen-expr-requires t c κs = (omega (arith, c .before .before .before .before .before .before .before .before .before .before .before .before .before .before .before .before .pre .0, c .before .before .before .before .before .before .loop .inv .0 .fewer, c .before .before .before .before .before .before .before .before .before .before .before .push-constants .ensures .fewer), record { within = c .before .before .before .before .before .before .loop .inv .0 .within; fits = omega (arith, c .before .before .before .before .before .before .loop .inv .0 .fewer, c .before .before .before .before .before .before .before .before .before .before .before .push-constants .ensures .fewer, (c .before .before .before .before .before .before .before .before .before .before .before .before .before .before .before .before .pre .1 .0) .fits, c .before .before .before .before .before .before .loop .inv .1); fine = c .before .before .before .before .before .before .loop .inv .0 .fine; named = c .before .before .before .before .before .before .loop .inv .0 .named (c .before .before .before .before .before .before .before .before .before .before .before .push-constants .ensures .named ((c .before .before .before .before .before .before .before .before .before .before .before .before .before .before .before .before .pre .1 .0) .named)) })
 
 args-rest-of-requires : (t : ℕ) → args-lts.Need-rest-of-requires (args-calls t) (args-at t) args.Post args-Inv-loop args-μ-loop
 args-rest-of-requires t c κs = tt
 
 args-loop-less : (t : ℕ) → args-lts.Need-loop-less (args-calls t) (args-at t) args.Post args-Inv-loop args-μ-loop
-args-loop-less t c = args-less (c .before .before .before .before .before .before .before .before .before .before .before .before .loop .inv) (c .before .before .before .before .before .before .before .before .before .before .if1 .taken) (c .rest-of .ensures)
+args-loop-less t c = args-less (c .before .before .before .before .before .before .before .before .before .before .before .before .loop .inv .0) (c .before .before .before .before .before .before .before .before .before .before .if1 .taken) (c .rest-of .ensures)
 
 args-loop-again : (t : ℕ) → args-lts.Need-loop-again (args-calls t) (args-at t) args.Post args-Inv-loop args-μ-loop
-args-loop-again t c = args-again (c .before .before .before .before .before .before .before .before .before .before .before .before .loop .inv) (c .before .before .before .before .before .before .before .before .before .before .if1 .taken) (c .rest-of .ensures) (c .before .before .before .before .before .gen-expr .ensures) (c .before .before .before .before .before .gen-expr .kept .1 .1 .1 .1 .0) (c .before .before .before .before .before .gen-expr .kept .1 .1 .1 .1 .1 .0)
+args-loop-again t c = (args-again (c .before .before .before .before .before .before .before .before .before .before .before .before .loop .inv .0) (c .before .before .before .before .before .before .before .before .before .before .if1 .taken) (c .rest-of .ensures) (c .before .before .before .before .before .gen-expr .ensures) (c .before .before .before .before .before .gen-expr .kept .1 .1 .1 .1 .0), c .before .before .before .before .before .gen-expr .kept .1 .1 .1 .1 .1 .0 ∙ c .before .before .before .before .before .before .before .before .before .before .before .before .loop .inv .1)
 
 args-push-count-requires : (t : ℕ) → args-lts.Need-push-count-requires (args-calls t) (args-at t) args.Post args-Inv-loop args-μ-loop
-args-push-count-requires t c κs = (c .before .before .before .loop .inv .fine, rw (c .before .before .before .before .before .before .before .pre .1 .1) (omega (arith, width-less (now (c .before .before .before .before .before .before .before .args .file)) (c .before .before .before .before .before .before .before .args .p), (c .before .before .before .before .before .before .before .pre .1 .0) .within .inside, (c .before .before .before .before .before .before .before .pre .1 .0) .within .known, (c .before .before .before .before .before .before .before .pre .1 .0) .within .sound .few)))
+args-push-count-requires t c κs = (c .before .before .before .loop .inv .0 .fine, rw (c .before .before .before .before .before .before .before .before .before .before .before .before .before .pre .1 .1) (omega (arith, width-less (now (c .before .before .before .before .before .before .before .before .before .before .before .before .before .args .file)) (c .before .before .before .before .before .before .before .before .before .before .before .before .before .args .p), (c .before .before .before .before .before .before .before .before .before .before .before .before .before .pre .1 .0) .within .inside, (c .before .before .before .before .before .before .before .before .before .before .before .before .before .pre .1 .0) .within .known, (c .before .before .before .before .before .before .before .before .before .before .before .before .before .pre .1 .0) .within .sound .few)))
 
 args-same-length-3 : (t : ℕ) → args-lts.Need-same-length-3 (args-calls t) (args-at t) args.Post args-Inv-loop args-μ-loop
-args-same-length-3 t c = c .before .before .push-count .kept .0 ∙ c .before .before .before .before .before .before .loop .inv .list
+args-same-length-3 t c = c .before .before .push-count .kept .0 ∙ c .before .before .before .before .before .before .loop .inv .0 .list ∙ c .before .before .before .before .before .before .before .before .before .before .before .push-constants .ensures .list
 
 args-same-length-4 : (t : ℕ) → args-lts.Need-same-length-4 (args-calls t) (args-at t) args.Post args-Inv-loop args-μ-loop
-args-same-length-4 t c = c .before .before .before .before .before .before .loop .inv .scratch
+args-same-length-4 t c = c .before .before .before .before .before .before .loop .inv .1
 
 args-returns-2 : (t : ℕ) → args-lts.Need-returns-2 (args-calls t) (args-at t) args.Post args-Inv-loop args-μ-loop
-args-returns-2 t c = args-done (c .before .before .before .before .before .before .loop .inv) (c .before .before .before .before .if1 .left) (c .before .before .before .before .before .before .before .before .before .before .args .n) (c .before .before .before .before .before .before .before .before .before .before .pre .1 .1) (c .before .before .push-count .ensures (now (c .before .before .before .before .before .before .before .before .before .before .args .file)))
+args-returns-2 t c = args-done (args-then (c .before .before .before .before .before .before .before .before .before .before .before .push-constants .ensures) (c .before .before .before .before .before .before .loop .inv .0)) (c .before .before .before .before .if1 .left) (c .before .before .before .before .before .before .before .before .before .before .before .before .before .before .before .before .args .n) (c .before .before .before .before .before .before .before .before .before .before .before .before .before .before .before .before .pre .1 .1) (c .before .before .push-count .ensures (now (c .before .before .before .before .before .before .before .before .before .before .before .before .before .before .before .before .args .file)))
 
 abbrev drag-calls : ℕ → drag-lts.Claims
 drag-calls t = (kid-at-reads.Asked, kid-at-reads.Learnt, list-at-reads.Asked, list-at-reads.Learnt, bit-of-reads.Asked, bit-of-reads.Learnt, push-reads.Asked, push-reads.Learnt, gen-expr-below t, gen-expr.Post, action-down-reads.Asked, action-down-reads.Learnt, no-loop-reads.Asked, no-loop-reads.Learnt, each-below t, each.Post)
@@ -2624,6 +2630,7 @@ pub +adjust+args+drag+each+ends+exit+for-expr+gen-binary-op+gen-call+gen-expr+ge
     args.Post
     args-Inv-loop
     args-μ-loop
+    (args-push-constants-requires t)
     (args-loop-holds t)
     (args-same-length t)
     (args-same-length-2 t)
