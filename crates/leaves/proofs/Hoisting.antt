@@ -1,6 +1,6 @@
 -- The search of a row for a tree that is hoisted.
 use Prim.Native.Nat.{ℕ, _<_}
-use mathlib.Core.Path.{_≡_, refl, sym, _∙_}
+use mathlib.Core.Path.{_≡_, refl}
 use mathlib.Core.Bool.{Bool, true, false, _||_}
 use mathlib.Core.List.{List}
 use native.Mathlib.Omega.{arith}
@@ -8,9 +8,8 @@ use Rattle.script_records.specs.declared.layout.Layout.{Layout}
 use Rattle.script_records.specs.declared.part.Part.{Part}
 use Rattle.lowering.specs.Meaning.{hoisted}
 use Rattle.lowering.specs.Statement.{meanings}
-use Rattle.tree.specs.declared.Node.{Node}
 use Rattle.tree.specs.Trees.{trees, nodeOf, kindAt}
-use Rattle.tree.specs.Within.{Within, IsNode, meaningsAt, kidAt, listAt}
+use Rattle.tree.specs.Within.{Within, meaningsAt, kidAt, listAt}
 use Rattle.tree.proofs.Nodes.{is-node, trees-more, trees-none}
 use Rattle.rows.specs.Rows.{any-hoisted}
 use Rattle.leaves.proofs.Records.{of-other-kind}

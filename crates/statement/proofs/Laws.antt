@@ -1,5 +1,5 @@
 -- What a part's last tree means, and rows that are empty or not.
-use Prim.Native.Nat.{ℕ, zero, suc, _+_, _-_, _≤_, _<_}
+use Prim.Native.Nat.{ℕ, _+_, _-_, _≤_, _<_}
 use mathlib.Core.Path.{_≡_, refl, sym, ap, _∙_}
 use mathlib.Core.List.{List, []}
 use mathlib.Core.Bool.{Bool, true, false, cond, not, _&&_, _||_}
@@ -9,10 +9,9 @@ use lib.Dec.{T, leb, ltb, eqb}
 use borrow.Author.Tests.{lt-ltb, ltb-true}
 use Rattle.hir.specs.Hir.{Str, Rec}
 use Rattle.hir.specs.declared.Affix.{Affix}
-use Rattle.hir.specs.Tree.{Forest, more}
+use Rattle.hir.specs.Tree.{Forest}
 use Rattle.hir.specs.declared.ConstantKind.{ConstantKind}
 use Rattle.hir.specs.declared.ConstantKind.the-variants as code-constant
-use Rattle.hir.specs.declared.ExprKind.{ExprKind}
 use Rattle.hir.specs.declared.ExprKind.the-variants as expr-kind
 use Rattle.hir.specs.declared.StatementKind.{StatementKind}
 use Rattle.hir.specs.declared.Record.{Record}
@@ -23,19 +22,17 @@ use Rattle.pcode.specs.Pcode.{Integer, Param, op, down, moved}
 use Rattle.script_records.specs.declared.layout.Layout.{Layout}
 use Rattle.script_records.specs.declared.part.Part.{Part}
 use Rattle.script_records.specs.Layout.{layoutOf, stringAt}
-use Rattle.script.specs.Resolve.{resolved, exprOver, statementOver}
-use Rattle.lowering.specs.Builder.{M, Step, _>>_, done, when, action, plain-action, push, define-function, define-delta, name-delta}
+use Rattle.script.specs.Resolve.{resolved, statementOver}
+use Rattle.lowering.specs.Builder.{Step, _>>_, done, when, action, plain-action, push, define-function, define-delta, name-delta}
 use Rattle.lowering.specs.Meaning.{Loop, Meaning, nth, list, present, element, shapeOf, literal}
-use Rattle.lowering.specs.Meaning as meaning
-use Rattle.lowering.specs.Statement.{meaning, meanings, expr, exprs, all-discarded, branch, has-case, has-default, no-loop, header, gen-statements, gen-values, gen-condition, default-label, is-prefix, bit, gen-start-drag, gen-expr, gen-statement, expr-of, statement-of, for-shape}
-use Rattle.lowering.specs.Access.{Access}
+use Rattle.lowering.specs.Statement.{meanings, expr, exprs, all-discarded, branch, has-case, has-default, no-loop, header, gen-statements, gen-values, gen-condition, default-label, is-prefix, bit, gen-start-drag, gen-expr, gen-statement, expr-of, statement-of, for-shape}
 use Rattle.lowering.proofs.Laws.{kid-law, list-law}
 use Rattle.list_slice.specs.File.{headerIn, paramsOf, namesString, namesFunction}
 use Rattle.tree.specs.declared.Node.{Node}
 use Rattle.tree.specs.declared.Element.{Element}
 use Rattle.tree.specs.declared.Counts.{Counts}
-use Rattle.tree.specs.Trees.{trees, recOf, nodeOf, elementOf, meant, countsOf}
-use Rattle.tree.specs.Within.{live, constant-named, record-named, Within, IsNode, IsKid, IsList, meaningsAt, kidAt, listAt}
+use Rattle.tree.specs.Trees.{trees, recOf, elementOf, meant, countsOf}
+use Rattle.tree.specs.Within.{live, constant-named, record-named, Within, IsNode, IsList, meaningsAt, kidAt, listAt}
 use Rattle.tree.proofs.Nodes.{is-node, trees-more, trees-none}
 use Rattle.tree.proofs.Meanings.{kid-zero, params-are, labelled-less}
 use Rattle.tree.proofs.Meanings as tree-meanings

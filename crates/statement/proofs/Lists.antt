@@ -1,8 +1,7 @@
 -- The loops over the trees of a row, from the first to the last, as `each` goes.
 use Prim.Native.Nat.{ℕ, zero, suc, _+_, _-_, _≤_, _<_}
-use mathlib.Core.Path.{_≡_, refl, sym, ap, _∙_}
+use mathlib.Core.Path.{_≡_, refl, sym, _∙_}
 use mathlib.Core.List.{List}
-use mathlib.Core.Bool.{false}
 use native.Mathlib.Omega.{arith}
 use lib.ListN.{length, getD, take, length-take, List·getD-append}
 use lib.Seq.{getD-take}
@@ -11,11 +10,8 @@ use Rattle.hir.specs.Tree.{Forest}
 use Rattle.script_records.specs.declared.layout.Layout.{Layout}
 use Rattle.script_records.specs.declared.part.Part.{Part}
 use Rattle.script_records.specs.Layout.{layoutOf, stringAt}
-use Rattle.pcode.specs.Pcode.{Integer}
-use Rattle.lowering.specs.Builder.{_>>_, done, push}
-use Rattle.lowering.specs.Meaning.{Loop, Meaning, element, width}
-use Rattle.lowering.specs.Statement.{meanings, expr, exprs-reversed, gen-arguments}
-use Rattle.lowering.proofs.Laws.{width-law}
+use Rattle.lowering.specs.Meaning.{Loop, element}
+use Rattle.lowering.specs.Statement.{meanings}
 use Rattle.codegen_state.specs.declared.CodeBuilder.{CodeBuilder}
 use Rattle.codegen_state.specs.View.{held, after}
 use Rattle.codegen_state.specs.Does.{Fine, Named, Does}
@@ -25,7 +21,7 @@ use Rattle.tree.specs.declared.Element.{Element}
 use Rattle.tree.specs.declared.Element.the-variants.{Case, Default, Statement}
 use Rattle.tree.specs.Trees.{trees, recOf, nodeOf, elementOf, isLabelled, isCase, meant}
 use Rattle.tree.specs.Within.{Within, IsNode, meaningsAt, kidAt, listAt}
-use Rattle.tree.proofs.Nodes.{is-node, trees-more, trees-none}
+use Rattle.tree.proofs.Nodes.{is-node, trees-none}
 use Rattle.tree.proofs.Meanings.{labelled-less, cases-less}
 use Rattle.tree.proofs.Counting.{element-is}
 use Rattle.builder.specs.Labels.{labels-of}
@@ -34,7 +30,6 @@ use Rattle.rows.specs.Rows.{oneOf, eachOf, cases-of}
 use Rattle.rows.specs.Kept.{upto, startOf, Idle, Kept}
 use Rattle.rows.proofs.Kept.{each-more, labels-more, cases-more, part-is, before-is, kept-same}
 use Rattle.statement.proofs.Rows.{labels-is, cases-is, one-is}
-use Rattle.statement.proofs.Laws.{none-at}
 
 -- what is below a part that was lent is as it was
 put-below : (u k : ℕ) (x y : List ℕ) (i : ℕ) → i < u → u ≤ length x → getD x i 0 ≡ getD (putMid u k x y) i 0

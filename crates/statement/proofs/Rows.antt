@@ -1,12 +1,12 @@
 -- Every row of the definition is a row in the one form.
-use Prim.Native.Nat.{ℕ, zero, suc, _+_, _-_, _≤_, _<_}
+use Prim.Native.Nat.{ℕ, zero, suc, _+_, _-_}
 use mathlib.Core.Path.{_≡_, refl, sym, ap, _∙_}
-use mathlib.Core.List.{List, [], _∷_}
+use mathlib.Core.List.{List, _∷_}
 use mathlib.Core.Bool.{Bool, true, false, cond, not, _||_}
 use native.Mathlib.Omega.{arith}
 use native.Mathlib.Nat.{add-zero}
 use lib.Dec.{ltb, eqb}
-use borrow.Author.Tests.{lt-ltb, eq-eqb, ne-eqb}
+use borrow.Author.Tests.{lt-ltb, ne-eqb}
 use Rattle.hir.specs.Hir.{Rec}
 use Rattle.hir.specs.Tree.{Forest, more}
 use Rattle.pcode.specs.Pcode.{Value}
@@ -21,9 +21,8 @@ use Rattle.codegen_state.specs.Does.{Does}
 use Rattle.codegen_state.proofs.Steps.{after-then, after-done}
 use Rattle.tree.specs.Trees.{labelled, cases, fromDefault, fromDefault-at, isLabelled, isCase}
 use Rattle.builder.specs.Labels.{one-label, labels-of, with-number, elements-from}
-use Rattle.rows.specs.declared.Each.{Each}
 use Rattle.rows.specs.declared.Each.the-variants.{Expr, Discarded, Field, Statement, Hoisted, Unhoisted, Conditional, Element}
-use Rattle.rows.specs.Rows.{one-case, cases-of, conditional, switch-element, oneOf, eachOf, any-hoisted}
+use Rattle.rows.specs.Rows.{one-case, cases-of, conditional, switch-element, eachOf, any-hoisted}
 
 -- two steps that do the same from everywhere
 abbrev pub Same : Step → Step → Type 0
