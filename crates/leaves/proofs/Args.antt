@@ -6,6 +6,7 @@ use mathlib.Core.List.{List}
 use native.Mathlib.Omega.{arith}
 use lib.Dec.{T}
 use lib.ListN.{length}
+use borrow.Author.Tests.{ne-eqb}
 use Rattle.hir.specs.declared.ConstantKind.{ConstantKind}
 use Rattle.hir.specs.declared.ExprKind.{ExprKind}
 use Rattle.hir.specs.declared.ExprKind.the-variants as expr-kind
@@ -16,23 +17,23 @@ use Rattle.script_records.specs.declared.part.Part.{Part}
 use Rattle.script_records.specs.declared.part.Tree.{Tree}
 use Rattle.script_records.specs.Layout.{wordsOf, rowsOf, layoutOf, stringAt}
 use Rattle.script_records.specs.Parts.{lastTree}
-use Rattle.decode.specs.Decode.{constantOf, recordOf}
+use Rattle.decode.specs.Decode.{constantOf, recordOf, plainOf, exprKinds}
 use Rattle.script.specs.Resolve.{resolved, exprOver}
 use Rattle.lowering.specs.Builder.{_>>_, push}
 use Rattle.lowering.specs.Meaning.{Meaning, width}
 use Rattle.lowering.specs.Statement.{meanings, expr, exprs-reversed, expr-of, gen-expr, gen-arguments}
 use Rattle.lowering.proofs.Laws.{width-law}
 use Rattle.codegen_state.specs.declared.CodeBuilder.{CodeBuilder}
-use Rattle.codegen_state.specs.View.{held, after}
+use Rattle.codegen_state.specs.View.{Held, held, after}
 use Rattle.codegen_state.specs.Does.{Fine, Does}
 use Rattle.codegen_state.proofs.Steps.{after-then, after-done, stays}
 use Rattle.tree.specs.declared.Node.{Node}
-use Rattle.tree.specs.Trees.{trees, recOf, nodeOf}
+use Rattle.tree.specs.Trees.{trees, recOf, nodeOf, kindAt}
 use Rattle.tree.specs.Within.{Within, IsNode, constant-named, meaningsAt, kidAt}
 use Rattle.tree.proofs.Nodes.{is-node, node-made, trees-more, trees-none}
-use Rattle.tree.proofs.ByKind.{rest-made}
+use Rattle.tree.proofs.ByKind.{kind-none, rest-made}
 use Rattle.tree.proofs.Meanings.{kid-zero}
-use Rattle.leaves.specs.Args.{Args}
+use Rattle.leaves.specs.Args.{Args, Unchanged}
 use Rattle.leaves.proofs.Constants.{Reads}
 
 -- what a part's last tree generates as an expression
@@ -110,3 +111,36 @@ module _ {F : List ℕ} {l : Layout} {w0 : List ℕ} {p : Part} {b0 : CodeBuilde
 
     pub args-constant : {b1 : CodeBuilder} {w1 : List ℕ} → Reads F c b w b1 w1 → length w1 ≡ length w → Args F l w0 p b0 w1 (t .before) b1
     args-constant o k = args-again z (rest-made F l left z e) (rw (expr-at (is-node F l left (i .within) refl) false root-is) o) k
+
+-- a Void, of kind 48, generates nothing
+module _ (F : List ℕ) (l : Layout) (left : Part) (k : kindAt F l left ≡ 48) where
+  some-left : left .n ≡ 0 → ⊥
+  some-left z = omega (arith, kind-none F l left z)
+
+  void-root : nodeOf F l left .root ≡ kind.Expr expr-kind.Void
+  unfolding kindAt nodeOf recordOf plainOf exprKinds
+  void-root = let e = rw (ne-eqb (left .n) 0 some-left) at k in rw (ne-eqb (left .n) 0 some-left, e)
+
+  module _ {p before : Part} (i : Unchanged F l p left) (e : before ≡ nodeOf F l left .before) where
+    pub void-less : before .n < left .n
+    void-less = rw e (omega (arith, some-left, is-node F l left (i .within) refl .apart))
+
+    pub void-out : Unchanged F l p before
+    void-out =
+        let g = is-node F l left (i .within) refl in
+        let nothing : (v : Held (Unit {0})) → after v (kidAt F left 0 .gen-expr false) ≡ v = λ v. rw (expr-at g false void-root) (after-done v) in
+        rw e (record {
+          same = λ v. sym (rw (reversed-more F l left g (omega (arith, some-left)), after-then, nothing v) refl) ∙ i .same v;
+          within = g .rest-within;
+          fewer = omega (arith, g .apart, i .fewer);
+        })
+
+pub unchanged : (F : List ℕ) (l : Layout) (p : Part) → Within F l p → Unchanged F l p p
+unchanged F l p w = record { same = λ v. refl; within = w; fewer = omega arith }
+
+module _ {F : List ℕ} {l : Layout} {w0 : List ℕ} {p : Part} {b0 : CodeBuilder} {w : List ℕ} {left : Part} {b : CodeBuilder} where
+  pub args-without : {next : Part} → Args F l w0 p b0 w left b → Unchanged F l left next → Args F l w0 p b0 w next b
+  args-without i u = record { same = u .same _ ∙ i .same; fine = i .fine; named = i .named; within = u .within; fewer = omega (arith, i .fewer, u .fewer); list = i .list }
+
+  pub args-of-all : {all : Part} → Unchanged F l all p → Args F l w0 p b0 w left b → Args F l w0 all b0 w left b
+  args-of-all u i = record { same = i .same ∙ u .same _; fine = i .fine; named = i .named; within = i .within; fewer = omega (arith, i .fewer, u .fewer); list = i .list }

@@ -7,7 +7,7 @@ use Rattle.script_records.specs.declared.layout.Layout.{Layout}
 use Rattle.script_records.specs.declared.part.Part.{Part}
 use Rattle.lowering.specs.Statement.{exprs-reversed}
 use Rattle.codegen_state.specs.declared.CodeBuilder.{CodeBuilder}
-use Rattle.codegen_state.specs.View.{held, after}
+use Rattle.codegen_state.specs.View.{Held, held, after}
 use Rattle.codegen_state.specs.Does.{Fine, Named}
 use Rattle.tree.specs.Within.{Within, meaningsAt}
 
@@ -19,3 +19,9 @@ pub record Args (F : List ℕ) (l : Layout) (w0 : List ℕ) (p : Part) (b0 : Cod
   pub within : Within F l left
   pub fewer : left .n ≤ p .n
   pub list : length w ≡ length w0
+
+-- the arguments in `left` generate what those in p do
+pub record Unchanged (F : List ℕ) (l : Layout) (p left : Part) : Type 0 where
+  pub same : (v : Held (Unit {0})) → after v (exprs-reversed (meaningsAt F left)) ≡ after v (exprs-reversed (meaningsAt F p))
+  pub within : Within F l left
+  pub fewer : left .n ≤ p .n

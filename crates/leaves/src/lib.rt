@@ -22,7 +22,7 @@ ghost use Rattle.tree.specs.Trees.{recOf, isLabelled, isCase, meant};
 ghost use Rattle.tree.specs.Within.{Within, constant-named, target-named, record-named, meaningsAt, kidAt, listAt};
 ghost use Rattle.access.specs.Accesses.{accessOf};
 ghost use Rattle.rows.specs.Rows.{labelOf, any-hoisted};
-ghost use Rattle.leaves.specs.Args.{Args};
+ghost use Rattle.leaves.specs.Args.{Args, Unchanged};
 use access::Access;
 use access::for_identifier;
 use access::get_and_set_value;
@@ -107,6 +107,19 @@ pub struct Pushed {
     pub left: Part,
 }
 
+// The arguments without the Voids among the last, which generate nothing.
+fn without_voids(file: &[u8], l: Layout, p: Part) -> Part
+    requires { ⌜ Within (now file) l p ⌝ }
+    ensures { λ r. ⌜ Unchanged (now (file .entry)) l p r ⌝ }
+{
+    let mut left = p;
+    while kind_at(file, l, left) == 48 {
+        let before = rest_of(file, l, left);
+        left = before;
+    }
+    left
+}
+
 // Arguments run from the last to the first: the constants among the last of them are pushed here, without a call for each expression.
 pub fn push_constants(file: &[u8], l: Layout, p: Part, list: &mut [u32], b: CodeBuilder) -> Pushed
     requires { ⌜ Fine b (now list) ⌝ }
@@ -114,7 +127,7 @@ pub fn push_constants(file: &[u8], l: Layout, p: Part, list: &mut [u32], b: Code
     requires { ⌜ Named (now file) b (now list) ⌝ }
     ensures { λ r. ⌜ Args (now (file .entry)) l (now (list .entry)) p b (now (list .exit)) (r .left) (r .b) ⌝ }
 {
-    let mut rest = p;
+    let mut rest = without_voids(file, l, p);
     let mut cur = b;
     while rest.n != 0 {
         if cur.refused != 0 {
@@ -128,7 +141,7 @@ pub fn push_constants(file: &[u8], l: Layout, p: Part, list: &mut [u32], b: Code
         let c = constant(row);
         cur = read_constant(file, l, list, cur, c);
         let before = t.before;
-        rest = before;
+        rest = without_voids(file, l, before);
     }
     Pushed { b: cur, left: rest }
 }
