@@ -72,7 +72,7 @@ pub tree-made : (rs : List Row) (p : Part) {row : Row} {at s inner end n : ℕ} 
 unfolding lastTree spanAt
 tree-made rs p a b c d e f = cc
 
--- a tree of one record
-pub tree-one : (rs : List Row) (p : Part) {row : Row} {at n : ℕ} → at ≡ p .end - 1 → row ≡ rowIn rs at → row .size ≡ 1 → (p .n ≡ 0 → ⊥) → n ≡ p .n - 1
-    → _≡_ {A = Tree} (record { row = row; children = record { end = at; n = 0 }; before = record { end = at; n = n } }) (lastTree rs p)
-tree-one rs p {row} a b one some e = tree-made rs p {s = 1} a b (omega arith) refl a e
+-- a tree as large as its record says
+pub tree-sized : (rs : List Row) (p : Part) (s : ℕ) {row : Row} {at k e n : ℕ} → at ≡ p .end - 1 → row ≡ rowIn rs at → row .size ≡ s → 1 ≤ s → s ≤ p .n → k ≡ s - 1 → e ≡ p .end - s → n ≡ p .n - s
+    → _≡_ {A = Tree} (record { row = row; children = record { end = at; n = k }; before = record { end = e; n = n } }) (lastTree rs p)
+tree-sized rs p s a b size some room c e n = tree-made rs p {s = s} a b (omega arith) c e n

@@ -45,14 +45,25 @@ pub fn last_tree(file: &[u8], l: Layout, p: Part) -> Tree
 {
     let at = minus(p.end, 1);
     let row = crate::layout::row_at(file, l, at);
-    // A tree of one record, as most are: a branch lets the processor go on before the size is read.
+    // Most trees have one record or two: a branch lets the processor go on before the size is read.
     if row.size == 1 {
-        if p.n != 0 {
+        if 1 <= p.n {
             let n = p.n - 1;
             return Tree {
                 row,
                 children: Part { end: at, n: 0 },
                 before: Part { end: at, n },
+            };
+        }
+    }
+    if row.size == 2 {
+        if 2 <= p.n {
+            let end = minus(p.end, 2);
+            let n = p.n - 2;
+            return Tree {
+                row,
+                children: Part { end: at, n: 1 },
+                before: Part { end, n },
             };
         }
     }
