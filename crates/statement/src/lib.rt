@@ -101,6 +101,7 @@ use tree::kid_at;
 use tree::list_at;
 use tree::node_at;
 use tree::rest_of;
+use tree::width_of;
 
 // Named function expressions that are whole statements come first.
 pub fn gen_statements(
@@ -624,17 +625,17 @@ fn gen_expr(
             ExprKind::Ternary => gen_ternary(file, l, kids, b, list, scratch),
             ExprKind::InitObject => {
                 let es = list_at(file, l, kids, 0);
-                let n = counts_of(file, l, es);
+                let n = width_of(file, l, es);
                 let idle = no_loop();
                 let b1 = each(file, l, es, b, list, scratch, Each::Field, idle, 0, 0);
-                let b2 = push_count(list, b1, n.trees);
-                action_down(list, b2, Op::InitObject, n.trees + n.trees)
+                let b2 = push_count(list, b1, n);
+                action_down(list, b2, Op::InitObject, n + n)
             }
             ExprKind::InitArray => {
                 let es = list_at(file, l, kids, 0);
-                let n = counts_of(file, l, es);
-                let b1 = args(file, l, es, b, list, scratch, n.trees);
-                action_down(list, b1, Op::InitArray, n.trees)
+                let n = width_of(file, l, es);
+                let b1 = args(file, l, es, b, list, scratch, n);
+                action_down(list, b1, Op::InitArray, n)
             }
             ExprKind::Field => {
                 let idle = no_loop();
@@ -941,15 +942,15 @@ fn gen_call(
 {
     let name = kid_at(file, l, p, 1);
     let es = list_at(file, l, p, 0);
-    let n = counts_of(file, l, es);
-    let b1 = args(file, l, es, b, list, scratch, n.trees);
+    let n = width_of(file, l, es);
+    let b1 = args(file, l, es, b, list, scratch, n);
     let a = for_expr(file, l, name, b1, list, scratch);
     let b2 = a.b;
     let access = a.access;
     if new {
-        return call_new(list, b2, n.trees, access);
+        return call_new(list, b2, n, access);
     }
-    call(list, b2, n.trees, access)
+    call(list, b2, n, access)
 }
 
 // Arguments run from the last to the first, and then their count.

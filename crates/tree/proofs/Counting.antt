@@ -136,3 +136,31 @@ module _ (F : List ℕ) (l : Layout) (p : Part) where
             labels = omega arith;
             cases = omega arith;
           })
+
+-- the trees of p that are not in `left`, by their number alone
+pub record Measured (F : List ℕ) (l : Layout) (p : Part) (count : ℕ) (left : Part) : Type 0 where
+  pub whole : count + meaning.width (trees F left) ≡ meaning.width (trees F p)
+  pub within : Within F l left
+  pub small : p .n < 65536
+  pub fewer : count + left .n ≤ p .n
+
+pub measured-start : (F : List ℕ) (l : Layout) (p : Part) → Within F l p → Measured F l p 0 p
+measured-start F l p w = record { whole = omega arith; within = w; small = omega (arith, w .inside, w .known, w .sound .few); fewer = omega arith }
+
+module _ {F : List ℕ} {l : Layout} {p : Part} {count : ℕ} {left : Part} (i : Measured F l p count left) where
+  pub measured-done : left .n ≡ 0 → count ≡ meaning.width (trees F p)
+  measured-done z = let w = rw (trees-none F left z) at (i .whole) in omega (arith, w)
+
+  module _ (z : left .n ≡ 0 → ⊥) where
+    pub measured-few : count + 1 < 65536
+    measured-few = omega (arith, i .small, i .fewer)
+
+    module _ {rest : Part} (e : rest ≡ nodeOf F l left .before) where
+      pub measured-less : rest .n < left .n
+      measured-less = rw e (omega (arith, is-node F l left (i .within) refl .apart))
+
+      pub measured-next : Measured F l p (count + 1) rest
+      measured-next =
+          let g = is-node F l left (i .within) refl in
+          let w = rw (trees-more F l left g (omega arith)) at (i .whole) in
+          rw e (record { whole = omega (arith, w); within = g .rest-within; small = i .small; fewer = omega (arith, g .apart, i .fewer) })

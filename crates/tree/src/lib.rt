@@ -1,5 +1,6 @@
 // The tree of a script file, node by node. A node's children, and those before a sibling, are parts of the records.
 ghost use mathlib.Core.Path.{_≡_};
+ghost use Rattle.lowering.specs.Meaning.{width};
 ghost use Rattle.tree.specs.Count.{Few, withTree};
 ghost use Rattle.tree.specs.Trees.{nodeOf, kindAt, elementOf, trees, countsOf};
 ghost use Rattle.tree.specs.Within.{Within, IsKid, IsList};
@@ -164,6 +165,21 @@ pub fn counts_of(file: &[u8], l: Layout, p: Part) -> Counts
         left = before;
     }
     found
+}
+
+// How many trees stand in a row.
+pub fn width_of(file: &[u8], l: Layout, p: Part) -> u32
+    requires { ⌜ Within (now file) l p ⌝ }
+    ensures { λ r. ⌜ r ≡ width (trees (now (file .entry)) p) ⌝ }
+{
+    let mut count: u32 = 0;
+    let mut left = p;
+    while left.n != 0 {
+        count += 1;
+        let before = rest_of(file, l, left);
+        left = before;
+    }
+    count
 }
 
 // The part whose last tree is the one n places before the last, and that tree's children.
