@@ -7,23 +7,26 @@ use mathlib.Core.Option.{Option, none, some}
 use native.Mathlib.Omega.{arith}
 use native.Mathlib.Nat.{add-zero}
 use native.Mathlib.Numerals.{add-one}
-use lib.Dec.{ltb}
+use lib.Dec.{ltb, eqb}
 use lib.ListN.{length, getD, set, length-set}
 use lib.Seq.{getD-set-same, getD-set-other}
-use borrow.Author.Tests.{ne-eqb}
-use Rattle.hir.specs.Tree.{Forest}
+use borrow.Author.Tests.{eqb-true, eqb-false, ne-eqb}
+use Rattle.hir.specs.Hir.{Rec}
+use Rattle.hir.specs.Tree.{Forest, more}
 use Rattle.hir.specs.declared.Record.the-variants as kind
 use Rattle.hir.specs.declared.StatementKind.the-variants as code
 use Rattle.hir.specs.declared.ExprKind.the-variants as expr
 use Rattle.script_records.specs.declared.layout.Layout.{Layout}
 use Rattle.script_records.specs.declared.part.Part.{Part}
-use Rattle.script_records.proofs.Trees.{span-le}
+use Rattle.script_records.specs.Layout.{rowsOf, rowIn}
+use Rattle.script_records.specs.Parts.{lastTree}
+use Rattle.script_records.proofs.Trees.{span-le, span-pos}
 use Rattle.decode.specs.Decode.{recordOf, plainOf, statementKinds, exprKinds}
 use Rattle.script.specs.Resolve.{resolved}
 use Rattle.lowering.specs.Builder.{State, Step, _>>=_, _>>_, pure, done, when, stack-size, truncate-stack}
 use Rattle.lowering.specs.Meaning.{Loop, Meaning, kid, list, hoisted, element}
 use Rattle.lowering.specs.Meaning as meaning
-use Rattle.lowering.specs.Statement.{meanings}
+use Rattle.lowering.specs.Statement.{meaning, meanings, gen-those}
 use Rattle.codegen_state.specs.View.{Waiting, Held, holds, stopped, carry, after}
 use Rattle.codegen_state.proofs.Steps.{after-then, after-done}
 use Rattle.tree.specs.declared.Node.{Node}
@@ -36,7 +39,7 @@ use Rattle.builder.specs.Labels.{labels-of, one-label}
 use Rattle.rows.specs.declared.Each.{Each}
 use Rattle.rows.specs.declared.Each.the-variants.{Expr, Discarded, Field, Statement, Hoisted, Unhoisted, Conditional, Element}
 use Rattle.rows.specs.Rows.{oneOf, eachOf, cases-of, one-case}
-use Rattle.rows.specs.Kept.{ofStatements, isNowhere, Quiet, Lasting, LeftOut, KeptOrOut, upto, startOf, Idle, Kept}
+use Rattle.rows.specs.Kept.{ofStatements, isNowhere, idleKind, AllIdle, Hollow, Quiet, Lasting, LeftOut, KeptOrOut, upto, startOf, Idle, Kept}
 
 -- a row, by its last tree
 module _ (F : List ℕ) (l : Layout) (p : Part) {t : Node} (i : IsNode F l p t) (h : 0 < p .n) where
@@ -56,59 +59,83 @@ module _ (F : List ℕ) (l : Layout) (p : Part) {t : Node} (i : IsNode F l p t) 
 pub never : {A : Type 0} → false ≡ true → A
 never h = absurd (omega (arith, ap (λ (x : Bool). cond {A = ℕ} x 1 0) h))
 
--- a statement that generates nothing: neither does a row's step for it
-module _ (lp : Loop) (f d s c : ℕ) (m : Meaning) (kids : Forest Meaning) (quiet : (v : Held (Unit {0})) → after v (m .gen-statement lp) ≡ v) (no-label : element (m .rec) ≡ meaning.statement) where
-  when-quiet : (b : Bool) (v : Held (Unit {0})) → after v (when b (m .gen-statement lp)) ≡ v
-  when-quiet true v = quiet v
-  when-quiet false v = after-done v
+-- steps that change nothing
+abbrev Still : Step → Type 0
+Still m = (v : Held (Unit {0})) → after v m ≡ v
 
+then-still : (m k : Step) → Still m → Still k → Still (m >> k)
+then-still m k a b v = after-then v m k ∙ rw (a v) (b v)
+
+when-still : (b : Bool) (m : Step) → Still m → Still (when b m)
+when-still true m a = a
+when-still false m a = after-done
+
+truncate-same : (a : Unit {0}) (s : State) (r : Waiting) → after (holds a s r) (truncate-stack (s .builder .size)) ≡ holds a s r
+unfolding after carry stack-size _>>=_ pure
+truncate-same a s r = let z : s .builder .size - s .builder .size ≡ 0 = omega arith in rw z
+
+-- between noting the stack's size and truncating the stack to it
+framed : (m : Step) → Still m → Still (stack-size >>= λ size. m >> truncate-stack size)
+unfolding after carry stack-size _>>=_
+framed m q (stopped n) = refl
+framed m q (holds a s r) = after-then (holds a s r) m (truncate-stack (s .builder .size)) ∙ rw (q (holds a s r)) (truncate-same a s r)
+
+-- a statement that generates nothing: neither does a row's step for it
+module _ (lp : Loop) (f d s c : ℕ) (m : Meaning) (kids : Forest Meaning) (quiet : Still (m .gen-statement lp)) (no-label : element (m .rec) ≡ meaning.statement) where
   one-quiet : (e : Each) → ofStatements e ≡ true → (v : Held (Unit {0})) → after v (oneOf e lp f d s c m kids) ≡ v
   one-quiet Expr h v = never h
   one-quiet Discarded h v = never h
   one-quiet Field h v = never h
   one-quiet Statement h v = quiet v
-  one-quiet Hoisted h v = when-quiet (hoisted (m .rec) kids) v
-  one-quiet Unhoisted h v = when-quiet (not (hoisted (m .rec) kids)) v
+  one-quiet Hoisted h v = when-still (hoisted (m .rec) kids) _ quiet v
+  one-quiet Unhoisted h v = when-still (not (hoisted (m .rec) kids)) _ quiet v
   one-quiet Conditional h v = never h
-  one-quiet Element h v = rw no-label (when-quiet (ltb 0 s) v)
+  one-quiet Element h v = rw no-label (when-still (ltb 0 s) _ quiet v)
 
 -- the records of some kinds
 module _ (F : List ℕ) (l : Layout) (p : Part) where
-  kind-some : kindAt F l p < 96 → p .n ≡ 0 → ⊥
-  kind-some h z = omega (arith, kind-none F l p z)
+  kind-some : (kindAt F l p ≡ 96 → ⊥) → p .n ≡ 0 → ⊥
+  kind-some h z = h (sym (kind-none F l p z))
 
   break-root : kindAt F l p ≡ 8 → nodeOf F l p .root ≡ kind.Statement code.Break
   unfolding kindAt nodeOf recordOf plainOf statementKinds
   break-root e =
-      let z = ne-eqb (p .n) 0 (kind-some (omega (arith, e))) in
+      let z = ne-eqb (p .n) 0 (kind-some (λ h. omega (arith, e, h))) in
       let k = rw z at e in
       rw (z, k)
 
   continue-root : kindAt F l p ≡ 9 → nodeOf F l p .root ≡ kind.Statement code.Continue
   unfolding kindAt nodeOf recordOf plainOf statementKinds
   continue-root e =
-      let z = ne-eqb (p .n) 0 (kind-some (omega (arith, e))) in
+      let z = ne-eqb (p .n) 0 (kind-some (λ h. omega (arith, e, h))) in
       let k = rw z at e in
       rw (z, k)
 
   expr-root : kindAt F l p ≡ 3 → nodeOf F l p .root ≡ kind.Statement code.Expr
   unfolding kindAt nodeOf recordOf plainOf statementKinds
   expr-root e =
-      let z = ne-eqb (p .n) 0 (kind-some (omega (arith, e))) in
+      let z = ne-eqb (p .n) 0 (kind-some (λ h. omega (arith, e, h))) in
       let k = rw z at e in
       rw (z, k)
 
   block-root : kindAt F l p ≡ 4 → nodeOf F l p .root ≡ kind.Statement code.Block
   unfolding kindAt nodeOf recordOf plainOf statementKinds
   block-root e =
-      let z = ne-eqb (p .n) 0 (kind-some (omega (arith, e))) in
+      let z = ne-eqb (p .n) 0 (kind-some (λ h. omega (arith, e, h))) in
+      let k = rw z at e in
+      rw (z, k)
+
+  list-root : kindAt F l p ≡ 97 → recOf F (nodeOf F l p .root) ≡ Rec.List
+  unfolding kindAt nodeOf recordOf resolved
+  list-root e =
+      let z = ne-eqb (p .n) 0 (kind-some (λ h. omega (arith, e, h))) in
       let k = rw z at e in
       rw (z, k)
 
   void-root : kindAt F l p ≡ 48 → nodeOf F l p .root ≡ kind.Expr expr.Void
   unfolding kindAt nodeOf recordOf plainOf exprKinds
   void-root e =
-      let z = ne-eqb (p .n) 0 (kind-some (omega (arith, e))) in
+      let z = ne-eqb (p .n) 0 (kind-some (λ h. omega (arith, e, h))) in
       let k = rw z at e in
       rw (z, k)
 
@@ -124,15 +151,15 @@ nowhere : (o : Option ℕ) (b : Bool) → (isNowhere o && b) ≡ true → (o ≡
 nowhere none b h = (refl, h)
 nowhere (some label) b h = never h
 
--- a step that changes nothing, between noting the stack's size and truncating the stack to it
-truncate-same : (a : Unit {0}) (s : State) (r : Waiting) → after (holds a s r) (truncate-stack (s .builder .size)) ≡ holds a s r
-unfolding after carry stack-size _>>=_ pure
-truncate-same a s r = let z : s .builder .size - s .builder .size ≡ 0 = omega arith in rw z
-
-framed : (m : Step) → ((v : Held (Unit {0})) → after v m ≡ v) → (v : Held (Unit {0})) → after v (stack-size >>= λ size. m >> truncate-stack size) ≡ v
-unfolding after carry stack-size _>>=_
-framed m q (stopped n) = refl
-framed m q (holds a s r) = after-then (holds a s r) m (truncate-stack (s .builder .size)) ∙ rw (q (holds a s r)) (truncate-same a s r)
+idle-cases : (k : ℕ) {breaks continues : Bool} → idleKind k breaks continues ≡ true → {P : Type 0} → (k ≡ 4 → P) → (k ≡ 97 → P) → (k ≡ 8 → breaks ≡ true → P) → (k ≡ 9 → continues ≡ true → P) → P
+idle-cases k {breaks} {continues} h {P} block list′ break continue = by (eqb k 4) refl (eqb k 97) refl (eqb k 8) refl (eqb k 9) refl
+  where
+    by : (a : Bool) → eqb k 4 ≡ a → (b : Bool) → eqb k 97 ≡ b → (c : Bool) → eqb k 8 ≡ c → (d : Bool) → eqb k 9 ≡ d → P
+    by true x b y c z d u = block (eqb-true k 4 x)
+    by false x true y c z d u = list′ (eqb-true k 97 y)
+    by false x false y true z d u = break (eqb-true k 8 z) (rw (x, y, z) at h)
+    by false x false y false z true u = continue (eqb-true k 9 u) (rw (x, y, z, u) at h)
+    by false x false y false z false u = never (rw (x, y, z, u) at h)
 
 -- the last tree of a part, if it is left out
 module _ (F : List ℕ) (l : Layout) (p : Part) (w : Within F l p) where
@@ -152,39 +179,142 @@ module _ (F : List ℕ) (l : Layout) (p : Part) (w : Within F l p) where
         let n = nowhere (lp .continue-label) (ofStatements e) h in
         (n .1, rw (kid-zero F l p node-is, continue-root F l p k, n .0) (λ v. after-done v), rw (kid-zero F l p node-is, continue-root F l p k))
 
+    list-quiet : kindAt F l p ≡ 97 → ofStatements e ≡ true → Quiet F p e lp
+    list-quiet k o =
+        let r = list-root F l p k in
+        (o, rw (kid-zero F l p node-is, r) (λ v. after-done v), rw (kid-zero F l p node-is, r))
+
     void-quiet : kindAt F l p ≡ 3 → kid 0 (listAt F p 0) .gen-expr true ≡ done → ofStatements e ≡ true → Quiet F p e lp
     unfolding resolved
     void-quiet k h o =
         let d = rw (list-zero F l p node-is) at h in
         (o, rw (kid-zero F l p node-is, expr-root F l p k, d) (framed done after-done), rw (kid-zero F l p node-is, expr-root F l p k))
 
-    empty-quiet : kindAt F l p ≡ 4 → list 0 (listAt F p 0) ≡ Forest.none → ofStatements e ≡ true → Quiet F p e lp
+    hollow-quiet : {breaks continues statements : Bool} → Lasting breaks continues statements e lp → kindAt F l p ≡ 4 → Hollow F p breaks continues → ofStatements e ≡ true → Quiet F p e lp
     unfolding resolved
-    empty-quiet k h o =
-        let d = rw (list-zero F l p node-is) at h in
-        (o, rw (kid-zero F l p node-is, block-root F l p k, d) (framed (done >> done) (λ v. after-then v done done ∙ rw (after-done v) (after-done v))), rw (kid-zero F l p node-is, block-root F l p k))
-
-  pub break-out : {breaks continues statements : Bool} → kindAt F l p ≡ 8 → breaks ≡ true → LeftOut F p breaks continues statements
-  break-out k h e lp o = break-quiet e lp k (sym (o .breaks-is) ∙ h)
-
-  pub continue-out : {breaks continues statements : Bool} → kindAt F l p ≡ 9 → continues ≡ true → LeftOut F p breaks continues statements
-  continue-out k h e lp o = continue-quiet e lp k (sym (o .continues-is) ∙ h)
+    hollow-quiet {breaks} {continues} o k h s =
+        let b : breaks ≡ true → lp .break-label ≡ none = λ x. nowhere (lp .break-label) (ofStatements e) (sym (o .breaks-is) ∙ x) .0 in
+        let c : continues ≡ true → lp .continue-label ≡ none = λ x. nowhere (lp .continue-label) (ofStatements e) (sym (o .continues-is) ∙ x) .0 in
+        let d = rw (list-zero F l p node-is) at (h lp b c) in
+        (s, rw (kid-zero F l p node-is, block-root F l p k) d, rw (kid-zero F l p node-is, block-root F l p k))
 
   pub void-out : {breaks continues statements : Bool} → kindAt F l p ≡ 3 → statements ≡ true → kid 0 (listAt F p 0) .gen-expr true ≡ done → LeftOut F p breaks continues statements
   void-out k s h e lp o = void-quiet e lp k h (sym (o .statements-is) ∙ s)
 
-  pub empty-out : {breaks continues statements : Bool} → kindAt F l p ≡ 4 → statements ≡ true → list 0 (listAt F p 0) ≡ Forest.none → LeftOut F p breaks continues statements
-  empty-out k s h e lp o = empty-quiet e lp k h (sym (o .statements-is) ∙ s)
+  pub idle-out : {breaks continues statements : Bool} → (kindAt F l p ≡ 4 → ⊥) → statements ≡ true → idleKind (kindAt F l p) breaks continues ≡ true → LeftOut F p breaks continues statements
+  idle-out z s h e lp o = idle-cases (kindAt F l p) h
+      (λ k. absurd (z k))
+      (λ k. list-quiet e lp k (sym (o .statements-is) ∙ s))
+      (λ k b. break-quiet e lp k (sym (o .breaks-is) ∙ b))
+      (λ k b. continue-quiet e lp k (sym (o .continues-is) ∙ b))
 
--- the last child of a tree is a Void; its list is empty
+  pub hollow-out : {breaks continues statements : Bool} → kindAt F l p ≡ 4 → statements ≡ true → Hollow F p breaks continues → LeftOut F p breaks continues statements
+  hollow-out k s h e lp o = hollow-quiet e lp o k h (sym (o .statements-is) ∙ s)
+
+-- the records that were looked at, and one more
+module _ (F : List ℕ) (l : Layout) (breaks continues : Bool) (lo : ℕ) where
+  pub idle-none-yet : AllIdle F l lo lo breaks continues
+  idle-none-yet i a b = absurd (omega arith)
+
+  pub idle-one-more : (e : ℕ) → AllIdle F l lo e breaks continues → idleKind (rowIn (rowsOf F l) e .kind) breaks continues ≡ true → AllIdle F l lo (e + 1) breaks continues
+  idle-one-more e a h i x y = by (eqb i e) refl
+    where
+      by : (t : Bool) → eqb i e ≡ t → idleKind (rowIn (rowsOf F l) i .kind) breaks continues ≡ true
+      by true q = rw (eqb-true i e q) h
+      by false q = let z = eqb-false i e q in a i x (omega arith)
+
+-- the records of a node's children, and those before it, are records of the part
+module _ (F : List ℕ) (l : Layout) (p : Part) (w : Within F l p) where
+  kids-inside : (nodeOf F l p .children .end ≤ p .end) × (p .end - p .n ≤ nodeOf F l p .children .end - nodeOf F l p .children .n)
+  unfolding nodeOf lastTree
+  kids-inside = by (eqb (p .n) 0) refl
+    where
+      by : (b : Bool) → eqb (p .n) 0 ≡ b → (nodeOf F l p .children .end ≤ p .end) × (p .end - p .n ≤ nodeOf F l p .children .end - nodeOf F l p .children .n)
+      by true q = rw q (omega arith, omega arith)
+      by false q =
+          let z = eqb-false (p .n) 0 q in
+          let a = span-le (rowsOf F l) (p .end) (p .n) in
+          let b = span-pos (rowsOf F l) (p .end) (p .n) (omega arith) in
+          let c = w .inside in
+          rw q (omega arith, omega arith)
+
+  before-inside : (nodeOf F l p .before .end ≤ p .end) × (p .end - p .n ≤ nodeOf F l p .before .end - nodeOf F l p .before .n)
+  before-inside =
+      let i = is-node F l p w refl in
+      let a = span-le (rowsIn F) (p .end) (p .n) in
+      let b = w .inside in
+      (omega (arith, i .end), omega (arith, i .end, i .n))
+
+  last-kind : (p .n ≡ 0 → ⊥) → rowIn (rowsOf F l) (p .end - 1) .kind ≡ kindAt F l p
+  unfolding kindAt lastTree
+  last-kind z = rw (ne-eqb (p .n) 0 z)
+
+-- statements all of whose records are of idle kinds
+module _ (F : List ℕ) (l : Layout) {breaks continues : Bool} (lp : Loop) (no-break : breaks ≡ true → lp .break-label ≡ none) (no-continue : continues ≡ true → lp .continue-label ≡ none) where
+  those-none : (b : Bool) → Still (gen-those b lp Forest.none)
+  those-none true = after-done
+  those-none false = after-done
+
+  those-more : (b : Bool) (ms : Forest Meaning) (m : Meaning) (kids : Forest Meaning) → Still (gen-those b lp ms) → Still (m .gen-statement lp) → Still (gen-those b lp (more ms m kids))
+  those-more true ms m kids x y = then-still _ _ x (when-still (hoisted (m .rec) kids) _ y)
+  those-more false ms m kids x y = then-still _ _ x (when-still (not (hoisted (m .rec) kids)) _ y)
+
+  abbrev Those : Part → Type 0
+  Those p = (b : Bool) → Still (gen-those b lp (meaningsAt F p))
+
+  abbrev Idles : Part → Type 0
+  Idles p = AllIdle F l (p .end - p .n) (p .end) breaks continues
+
+  module _ (p : Part) (w : Within F l p) (a : Idles p) (before : Those (nodeOf F l p .before)) (within : Those (nodeOf F l (nodeOf F l p .children) .children)) where
+    abbrev node-of : IsNode F l p (nodeOf F l p)
+    node-of = is-node F l p w refl
+
+    inner : (b : Bool) → Still (gen-those b lp (list 0 (meaningsAt F (nodeOf F l p .children))))
+    inner b = rw (list-zero F l (nodeOf F l p .children) (is-node F l (nodeOf F l p .children) (node-of .kids-within) refl)) (within b)
+
+    root-still : (p .n ≡ 0 → ⊥) → Still (meaning (recOf F (nodeOf F l p .root)) (meaningsAt F (nodeOf F l p .children)) .gen-statement lp)
+    unfolding resolved
+    root-still z = idle-cases (kindAt F l p) (rw (← last-kind F l p w z) (a (p .end - 1) (omega arith) (omega (arith, w .inside))))
+        (λ k. rw (block-root F l p k) (framed _ (then-still _ _ (inner true) (inner false))))
+        (λ k. rw (list-root F l p k) after-done)
+        (λ k h. rw (break-root F l p k, no-break h) after-done)
+        (λ k h. rw (continue-root F l p k, no-continue h) after-done)
+
+    those-step : Those p
+    unfolding meanings
+    those-step b = by (eqb (p .n) 0) refl
+      where
+        by : (t : Bool) → eqb (p .n) 0 ≡ t → Still (gen-those b lp (meaningsAt F p))
+        by true q = rw (trees-none F p (eqb-true (p .n) 0 q)) (those-none b)
+        by false q =
+            let z = eqb-false (p .n) 0 q in
+            rw (trees-more F l p node-of (omega arith)) (those-more b _ _ _ (before b) (root-still z))
+
+  inside : (p q : Part) → (q .end ≤ p .end) × (p .end - p .n ≤ q .end - q .n) → Idles p → Idles q
+  inside p q (u, d) a i x y = a i (omega (arith, d, x)) (omega (arith, u, y))
+
+  those-still : (n : ℕ) (p : Part) → p .n ≤ n → Within F l p → Idles p → Those p
+  unfolding meanings
+  those-still zero p h w a b = rw (trees-none F p (omega arith)) (those-none b)
+  those-still (suc n) p h w a b =
+      let kids = nodeOf F l p .children in
+      let g = is-node F l p w refl in
+      let k = is-node F l kids (g .kids-within) refl in
+      those-step p w a
+      (those-still n (nodeOf F l p .before) (omega (arith, g .apart)) (g .rest-within) (inside p _ (before-inside F l p w) a))
+      (those-still n (nodeOf F l kids .children) (omega (arith, g .apart, k .apart)) (k .kids-within) (inside kids _ (kids-inside F l kids (g .kids-within)) (inside p _ (kids-inside F l p w) a))) b
+
+-- the last child of a tree is a Void; all records of the children are of idle kinds
 module _ (F : List ℕ) (l : Layout) (p : Part) {kids : Part} (i : IsList F l p 0 kids) where
   pub void-kid : kindAt F l kids ≡ 48 → kid 0 (listAt F p 0) .gen-expr true ≡ done
   unfolding resolved
   void-kid k = rw (i .means, kid-zero F l kids (is-node F l kids (i .within) refl), void-root F l kids k)
 
-  pub empty-list : {statements : Part} → IsList F l kids 0 statements → statements .n ≡ 0 → list 0 (listAt F p 0) ≡ Forest.none
-  unfolding meanings
-  empty-list {statements} j z = rw (i .means, j .means, trees-none F statements z)
+  pub idle-hollow : {breaks continues : Bool} → AllIdle F l (kids .end - kids .n) (kids .end) breaks continues → Hollow F p breaks continues
+  idle-hollow a lp b c =
+      let k = is-node F l kids (i .within) refl in
+      let t = those-still F l lp b c (kids .n) (nodeOf F l kids .children) (omega (arith, k .apart)) (k .kids-within) (inside F l lp b c kids _ (kids-inside F l kids (i .within)) a) in
+      rw (i .means, list-zero F l kids k) (framed _ (then-still _ _ (t true) (t false)))
 
 pub part-is : (p : Part) (e n : ℕ) → p .end ≡ e → p .n ≡ n → p ≡ record { end = e; n = n }
 part-is p e n a b = rw (← a, ← b)

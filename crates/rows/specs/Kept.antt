@@ -1,18 +1,20 @@
 -- Where the trees of a row end that are to be generated: all but some that generate nothing.
 use Prim.Native.Nat.{ℕ, zero, suc, _+_, _-_, _≤_, _<_}
 use mathlib.Core.Path.{_≡_}
-use mathlib.Core.Bool.{Bool, true, false, _&&_}
+use mathlib.Core.Bool.{Bool, true, false, cond, _&&_}
 use mathlib.Core.List.{List}
 use mathlib.Core.Option.{Option, none, some}
+use lib.Dec.{eqb}
 use lib.ListN.{getD}
 use Rattle.script_records.specs.declared.layout.Layout.{Layout}
 use Rattle.script_records.specs.declared.part.Part.{Part}
-use Rattle.script_records.specs.Layout.{spanAt}
-use Rattle.lowering.specs.Meaning.{Loop, element}
+use Rattle.script_records.specs.Layout.{rowsOf, rowIn, spanAt}
+use Rattle.lowering.specs.Meaning.{Loop, list, element}
 use Rattle.lowering.specs.Meaning as meaning
+use Rattle.lowering.specs.Statement.{gen-block}
 use Rattle.codegen_state.specs.View.{Held, after}
 use Rattle.tree.specs.Trees.{rowsIn}
-use Rattle.tree.specs.Within.{Within, meaningsAt, kidAt}
+use Rattle.tree.specs.Within.{Within, meaningsAt, kidAt, listAt}
 use Rattle.builder.specs.Labels.{labels-of}
 use Rattle.rows.specs.declared.Each.{Each}
 use Rattle.rows.specs.declared.Each.the-variants.{Expr, Discarded, Field, Statement, Hoisted, Unhoisted, Conditional, Element}
@@ -37,6 +39,19 @@ isNowhere (some label) = false
 abbrev pub Quiet : List ℕ → Part → Each → Loop → Type 0
 Quiet F p e lp =
     (ofStatements e ≡ true) × ((v : Held (Unit {0})) → after v (kidAt F p 0 .gen-statement lp) ≡ v) × (element (kidAt F p 0 .rec) ≡ meaning.statement)
+
+-- Block, list, Break and Continue: of such a kind a statement generates nothing if those in it generate nothing
+abbrev pub idleKind : (kind : ℕ) → (breaks continues : Bool) → Bool
+idleKind kind breaks continues = cond (eqb kind 4) true (cond (eqb kind 97) true (cond (eqb kind 8) breaks (eqb kind 9 && continues)))
+
+-- the records from lo up to e are of such kinds
+abbrev pub AllIdle : List ℕ → Layout → (lo e : ℕ) → (breaks continues : Bool) → Type 0
+AllIdle F l lo e breaks continues = (i : ℕ) → lo ≤ i → i < e → idleKind (rowIn (rowsOf F l) i .kind) breaks continues ≡ true
+
+-- the last tree, if it is a Block, generates nothing where Break and Continue do not
+abbrev pub Hollow : List ℕ → Part → (breaks continues : Bool) → Type 0
+Hollow F p breaks continues = (lp : Loop) → (breaks ≡ true → lp .break-label ≡ none) → (continues ≡ true → lp .continue-label ≡ none) →
+    (v : Held (Unit {0})) → after v (gen-block lp (list 0 (listAt F p 0))) ≡ v
 
 -- what is known of a row and of the loop around: whether Break, Continue and other statements may be left out
 pub record Lasting (breaks continues statements : Bool) (e : Each) (lp : Loop) : Type 0 where

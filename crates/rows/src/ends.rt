@@ -3,16 +3,16 @@ ghost use mathlib.Core.Path.{_≡_};
 ghost use mathlib.Core.Bool.{true, _&&_};
 ghost use Prim.Native.Nat.{_-_, _≤_};
 ghost use lib.ListN.{length};
-ghost use Rattle.hir.specs.Tree.{Forest};
 ghost use Rattle.lowering.specs.Builder.{done};
-ghost use Rattle.lowering.specs.Meaning.{kid, list};
+ghost use Rattle.lowering.specs.Meaning.{kid};
 ghost use Rattle.tree.specs.Within.{Within, listAt};
 ghost use Rattle.rows.specs.Rows.{labelOf, loopOf};
-ghost use Rattle.rows.specs.Kept.{ofStatements, isNowhere, LeftOut, KeptOrOut, Kept};
+ghost use Rattle.rows.specs.Kept.{ofStatements, isNowhere, idleKind, AllIdle, Hollow, LeftOut, KeptOrOut, Kept};
 use crate::Each;
 use crate::Loop;
 use crate::Target;
 use script_records::layout::Layout;
+use script_records::layout::row_at;
 use script_records::part::Part;
 use tree::kind_at;
 use tree::list_at;
@@ -52,14 +52,54 @@ fn is_void(file: &[u8], l: Layout, p: Part) -> bool
     kind_at(file, l, kids) == 48
 }
 
-// Whether the last tree is over an empty list.
-fn is_empty(file: &[u8], l: Layout, p: Part) -> bool
+// Whether a statement of this kind generates nothing, if those in it generate nothing: a Block, its list, a Break and a Continue.
+fn is_idle_kind(kind: u32, breaks: bool, continues: bool) -> bool
+    ensures { λ r. ⌜ r ≡ idleKind kind breaks continues ⌝ }
+{
+    if kind == 4 {
+        return true;
+    }
+    if kind == 97 {
+        return true;
+    }
+    if kind == 8 {
+        return breaks;
+    }
+    if kind == 9 {
+        return continues;
+    }
+    false
+}
+
+// Whether all records of a part are of such kinds.
+fn are_idle(file: &[u8], l: Layout, p: Part, breaks: bool, continues: bool) -> bool
+    requires { ⌜ p .n ≤ p .end ⌝ }
+    ensures { λ r. ⌜ (r ≡ true → AllIdle (now (file .entry)) l (p .end - p .n) (p .end) breaks continues) ⌝ }
+{
+    let end = p.end;
+    let n = p.n;
+    let mut i = end - n;
+    while i < end {
+        let row = row_at(file, l, i);
+        let kind = row.kind;
+        if !is_idle_kind(kind, breaks, continues) {
+            return false;
+        }
+        i += 1;
+    }
+    true
+}
+
+// Whether the last tree, a Block, generates nothing. A large one is not looked through, since those in it would be looked through again.
+fn is_hollow(file: &[u8], l: Layout, p: Part, breaks: bool, continues: bool) -> bool
     requires { ⌜ Within (now file) l p ⌝ }
-    ensures { λ r. ⌜ (r ≡ true → list 0 (listAt (now (file .entry)) p 0) ≡ Forest.none) ⌝ }
+    ensures { λ r. ⌜ (r ≡ true → Hollow (now (file .entry)) p breaks continues) ⌝ }
 {
     let kids = list_at(file, l, p, 0);
-    let statements = list_at(file, l, kids, 0);
-    statements.n == 0
+    if 128 <= kids.n {
+        return false;
+    }
+    are_idle(file, l, kids, breaks, continues)
 }
 
 // Whether the last tree is a Break, a Continue, a Void or a Block that generates nothing.
@@ -74,23 +114,17 @@ fn is_left_out(
     requires { ⌜ Within (now file) l p ⌝ }
     ensures { λ r. ⌜ (r ≡ true → LeftOut (now (file .entry)) p breaks continues statements) ⌝ }
 {
-    let kind = kind_at(file, l, p);
-    if kind == 8 {
-        return breaks;
-    }
-    if kind == 9 {
-        return continues;
-    }
     if !statements {
         return false;
     }
+    let kind = kind_at(file, l, p);
     if kind == 3 {
         return is_void(file, l, p);
     }
     if kind == 4 {
-        return is_empty(file, l, p);
+        return is_hollow(file, l, p, breaks, continues);
     }
-    false
+    is_idle_kind(kind, breaks, continues)
 }
 
 fn kept(file: &[u8], l: Layout, p: Part, breaks: bool, continues: bool, statements: bool) -> usize
