@@ -18,7 +18,7 @@ use Rattle.hir.specs.declared.StatementKind.the-variants as code
 use Rattle.hir.specs.declared.ExprKind.the-variants as expr
 use Rattle.script_records.specs.declared.layout.Layout.{Layout}
 use Rattle.script_records.specs.declared.part.Part.{Part}
-use Rattle.script_records.specs.Layout.{rowsOf, rowIn}
+use Rattle.script_records.specs.Layout.{Words, rowsOf, rowIn}
 use Rattle.script_records.specs.Parts.{lastTree}
 use Rattle.script_records.proofs.Trees.{span-le, span-pos}
 use Rattle.decode.specs.Decode.{recordOf, plainOf, statementKinds, exprKinds}
@@ -26,7 +26,7 @@ use Rattle.script.specs.Resolve.{resolved}
 use Rattle.lowering.specs.Builder.{State, Step, _>>=_, _>>_, pure, done, when, stack-size, truncate-stack}
 use Rattle.lowering.specs.Meaning.{Loop, Meaning, kid, list, hoisted, element}
 use Rattle.lowering.specs.Meaning as meaning
-use Rattle.lowering.specs.Statement.{meaning, meanings, gen-those}
+use Rattle.lowering.specs.Statement.{meanings, gen-those, gen-block}
 use Rattle.codegen_state.specs.View.{Waiting, Held, holds, stopped, carry, after}
 use Rattle.codegen_state.proofs.Steps.{after-then, after-done}
 use Rattle.tree.specs.declared.Node.{Node}
@@ -94,50 +94,39 @@ module _ (lp : Loop) (f d s c : ℕ) (m : Meaning) (kids : Forest Meaning) (quie
 
 -- the records of some kinds
 module _ (F : List ℕ) (l : Layout) (p : Part) where
-  kind-some : (kindAt F l p ≡ 96 → ⊥) → p .n ≡ 0 → ⊥
-  kind-some h z = h (sym (kind-none F l p z))
+  abbrev words : ℕ → Words
+  words k = let r = lastTree (rowsOf F l) p .row in record { kind = k; a = r .a; b = r .b; c = r .c }
+
+  root-is : (k : ℕ) → (k ≡ 96 → ⊥) → kindAt F l p ≡ k → nodeOf F l p .root ≡ recordOf (words k)
+  unfolding kindAt nodeOf
+  root-is k h e =
+      let z = ne-eqb (p .n) 0 (λ x. h (sym e ∙ sym (kind-none F l p x))) in
+      let r = rw z at e in
+      rw (z, r)
 
   break-root : kindAt F l p ≡ 8 → nodeOf F l p .root ≡ kind.Statement code.Break
-  unfolding kindAt nodeOf recordOf plainOf statementKinds
-  break-root e =
-      let z = ne-eqb (p .n) 0 (kind-some (λ h. omega (arith, e, h))) in
-      let k = rw z at e in
-      rw (z, k)
+  unfolding recordOf plainOf statementKinds
+  break-root e = root-is 8 (λ h. omega (arith, h)) e
 
   continue-root : kindAt F l p ≡ 9 → nodeOf F l p .root ≡ kind.Statement code.Continue
-  unfolding kindAt nodeOf recordOf plainOf statementKinds
-  continue-root e =
-      let z = ne-eqb (p .n) 0 (kind-some (λ h. omega (arith, e, h))) in
-      let k = rw z at e in
-      rw (z, k)
+  unfolding recordOf plainOf statementKinds
+  continue-root e = root-is 9 (λ h. omega (arith, h)) e
 
   expr-root : kindAt F l p ≡ 3 → nodeOf F l p .root ≡ kind.Statement code.Expr
-  unfolding kindAt nodeOf recordOf plainOf statementKinds
-  expr-root e =
-      let z = ne-eqb (p .n) 0 (kind-some (λ h. omega (arith, e, h))) in
-      let k = rw z at e in
-      rw (z, k)
+  unfolding recordOf plainOf statementKinds
+  expr-root e = root-is 3 (λ h. omega (arith, h)) e
 
   block-root : kindAt F l p ≡ 4 → nodeOf F l p .root ≡ kind.Statement code.Block
-  unfolding kindAt nodeOf recordOf plainOf statementKinds
-  block-root e =
-      let z = ne-eqb (p .n) 0 (kind-some (λ h. omega (arith, e, h))) in
-      let k = rw z at e in
-      rw (z, k)
+  unfolding recordOf plainOf statementKinds
+  block-root e = root-is 4 (λ h. omega (arith, h)) e
 
   list-root : kindAt F l p ≡ 97 → recOf F (nodeOf F l p .root) ≡ Rec.List
-  unfolding kindAt nodeOf recordOf resolved
-  list-root e =
-      let z = ne-eqb (p .n) 0 (kind-some (λ h. omega (arith, e, h))) in
-      let k = rw z at e in
-      rw (z, k)
+  unfolding recordOf resolved
+  list-root e = rw (root-is 97 (λ h. omega (arith, h)) e)
 
   void-root : kindAt F l p ≡ 48 → nodeOf F l p .root ≡ kind.Expr expr.Void
-  unfolding kindAt nodeOf recordOf plainOf exprKinds
-  void-root e =
-      let z = ne-eqb (p .n) 0 (kind-some (λ h. omega (arith, e, h))) in
-      let k = rw z at e in
-      rw (z, k)
+  unfolding recordOf plainOf exprKinds
+  void-root e = root-is 48 (λ h. omega (arith, h)) e
 
 -- trees that generate nothing, one after the other
 module _ {F : List ℕ} {e : Each} {lp : Loop} {lo : ℕ} where
@@ -147,8 +136,8 @@ module _ {F : List ℕ} {e : Each} {lp : Loop} {lo : ℕ} where
   idle-then : {q r s : ℕ} → Idle F e lp lo q r → Idle F e lp lo r s → Idle F e lp lo q s
   idle-then a b = record { up = omega (arith, a .up, b .up); same = λ f d v. b .same f d v ∙ a .same f d v; labels = b .labels ∙ a .labels; cases = b .cases ∙ a .cases }
 
-nowhere : (o : Option ℕ) (b : Bool) → (isNowhere o && b) ≡ true → (o ≡ none) × (b ≡ true)
-nowhere none b h = (refl, h)
+nowhere : (o : Option ℕ) (b : Bool) → (isNowhere o && b) ≡ true → o ≡ none
+nowhere none b h = refl
 nowhere (some label) b h = never h
 
 idle-cases : (k : ℕ) {breaks continues : Bool} → idleKind k breaks continues ≡ true → {P : Type 0} → (k ≡ 4 → P) → (k ≡ 97 → P) → (k ≡ 8 → breaks ≡ true → P) → (k ≡ 9 → continues ≡ true → P) → P
@@ -161,55 +150,49 @@ idle-cases k {breaks} {continues} h {P} block list′ break continue = by (eqb k
     by false x false y false z true u = continue (eqb-true k 9 u) (rw (x, y, z, u) at h)
     by false x false y false z false u = never (rw (x, y, z, u) at h)
 
--- the last tree of a part, if it is left out
+-- the last tree of a part
 module _ (F : List ℕ) (l : Layout) (p : Part) (w : Within F l p) where
   abbrev node-is : IsNode F l p (nodeOf F l p)
   node-is = is-node F l p w refl
 
-  module _ (e : Each) (lp : Loop) where
-    break-quiet : kindAt F l p ≡ 8 → (isNowhere (lp .break-label) && ofStatements e) ≡ true → Quiet F p e lp
+  -- of an idle kind, and its statements generate nothing if it is a Block
+  module _ (breaks continues : Bool) (h : idleKind (kindAt F l p) breaks continues ≡ true) where
+    idle-still : (lp : Loop) → (breaks ≡ true → lp .break-label ≡ none) → (continues ≡ true → lp .continue-label ≡ none) →
+        (kindAt F l p ≡ 4 → Still (gen-block lp (list 0 (listAt F p 0)))) → Still (kidAt F p 0 .gen-statement lp)
     unfolding resolved
-    break-quiet k h =
-        let n = nowhere (lp .break-label) (ofStatements e) h in
-        (n .1, rw (kid-zero F l p node-is, break-root F l p k, n .0) (λ v. after-done v), rw (kid-zero F l p node-is, break-root F l p k))
+    idle-still lp no-break no-continue block = rw (kid-zero F l p node-is) (idle-cases (kindAt F l p) h
+        (λ k. rw (block-root F l p k) (rw (list-zero F l p node-is) at (block k)))
+        (λ k. rw (list-root F l p k) after-done)
+        (λ k b. rw (break-root F l p k, no-break b) after-done)
+        (λ k b. rw (continue-root F l p k, no-continue b) after-done))
 
-    continue-quiet : kindAt F l p ≡ 9 → (isNowhere (lp .continue-label) && ofStatements e) ≡ true → Quiet F p e lp
+    idle-label : element (kidAt F p 0 .rec) ≡ meaning.statement
     unfolding resolved
-    continue-quiet k h =
-        let n = nowhere (lp .continue-label) (ofStatements e) h in
-        (n .1, rw (kid-zero F l p node-is, continue-root F l p k, n .0) (λ v. after-done v), rw (kid-zero F l p node-is, continue-root F l p k))
+    idle-label = rw (kid-zero F l p node-is) (idle-cases (kindAt F l p) h
+        (λ k. rw (block-root F l p k))
+        (λ k. rw (list-root F l p k))
+        (λ k b. rw (break-root F l p k))
+        (λ k b. rw (continue-root F l p k)))
 
-    list-quiet : kindAt F l p ≡ 97 → ofStatements e ≡ true → Quiet F p e lp
-    list-quiet k o =
-        let r = list-root F l p k in
-        (o, rw (kid-zero F l p node-is, r) (λ v. after-done v), rw (kid-zero F l p node-is, r))
+    pub idle-out : {statements : Bool} → statements ≡ true → (kindAt F l p ≡ 4 → Hollow F p breaks continues) → LeftOut F p breaks continues statements
+    idle-out s block e lp o =
+        let b : breaks ≡ true → lp .break-label ≡ none = λ x. nowhere (lp .break-label) (ofStatements e) (sym (o .breaks-is) ∙ x) in
+        let c : continues ≡ true → lp .continue-label ≡ none = λ x. nowhere (lp .continue-label) (ofStatements e) (sym (o .continues-is) ∙ x) in
+        (sym (o .statements-is) ∙ s, idle-still lp b c (λ k. block k lp b c), idle-label)
 
-    void-quiet : kindAt F l p ≡ 3 → kid 0 (listAt F p 0) .gen-expr true ≡ done → ofStatements e ≡ true → Quiet F p e lp
-    unfolding resolved
-    void-quiet k h o =
-        let d = rw (list-zero F l p node-is) at h in
-        (o, rw (kid-zero F l p node-is, expr-root F l p k, d) (framed done after-done), rw (kid-zero F l p node-is, expr-root F l p k))
+  -- an expression that generates nothing
+  void-still : kindAt F l p ≡ 3 → kid 0 (listAt F p 0) .gen-expr true ≡ done → (lp : Loop) → Still (kidAt F p 0 .gen-statement lp)
+  unfolding resolved
+  void-still k h lp =
+      let d = rw (list-zero F l p node-is) at h in
+      rw (kid-zero F l p node-is, expr-root F l p k, d) (framed done after-done)
 
-    hollow-quiet : {breaks continues statements : Bool} → Lasting breaks continues statements e lp → kindAt F l p ≡ 4 → Hollow F p breaks continues → ofStatements e ≡ true → Quiet F p e lp
-    unfolding resolved
-    hollow-quiet {breaks} {continues} o k h s =
-        let b : breaks ≡ true → lp .break-label ≡ none = λ x. nowhere (lp .break-label) (ofStatements e) (sym (o .breaks-is) ∙ x) .0 in
-        let c : continues ≡ true → lp .continue-label ≡ none = λ x. nowhere (lp .continue-label) (ofStatements e) (sym (o .continues-is) ∙ x) .0 in
-        let d = rw (list-zero F l p node-is) at (h lp b c) in
-        (s, rw (kid-zero F l p node-is, block-root F l p k) d, rw (kid-zero F l p node-is, block-root F l p k))
+  void-label : kindAt F l p ≡ 3 → element (kidAt F p 0 .rec) ≡ meaning.statement
+  unfolding resolved
+  void-label k = rw (kid-zero F l p node-is, expr-root F l p k)
 
   pub void-out : {breaks continues statements : Bool} → kindAt F l p ≡ 3 → statements ≡ true → kid 0 (listAt F p 0) .gen-expr true ≡ done → LeftOut F p breaks continues statements
-  void-out k s h e lp o = void-quiet e lp k h (sym (o .statements-is) ∙ s)
-
-  pub idle-out : {breaks continues statements : Bool} → (kindAt F l p ≡ 4 → ⊥) → statements ≡ true → idleKind (kindAt F l p) breaks continues ≡ true → LeftOut F p breaks continues statements
-  idle-out z s h e lp o = idle-cases (kindAt F l p) h
-      (λ k. absurd (z k))
-      (λ k. list-quiet e lp k (sym (o .statements-is) ∙ s))
-      (λ k b. break-quiet e lp k (sym (o .breaks-is) ∙ b))
-      (λ k b. continue-quiet e lp k (sym (o .continues-is) ∙ b))
-
-  pub hollow-out : {breaks continues statements : Bool} → kindAt F l p ≡ 4 → statements ≡ true → Hollow F p breaks continues → LeftOut F p breaks continues statements
-  hollow-out k s h e lp o = hollow-quiet e lp o k h (sym (o .statements-is) ∙ s)
+  void-out k s h e lp o = (sym (o .statements-is) ∙ s, void-still k h lp, void-label k)
 
 -- the records that were looked at, and one more
 module _ (F : List ℕ) (l : Layout) (breaks continues : Bool) (lo : ℕ) where
@@ -240,7 +223,7 @@ module _ (F : List ℕ) (l : Layout) (p : Part) (w : Within F l p) where
 
   before-inside : (nodeOf F l p .before .end ≤ p .end) × (p .end - p .n ≤ nodeOf F l p .before .end - nodeOf F l p .before .n)
   before-inside =
-      let i = is-node F l p w refl in
+      let i = node-is F l p w in
       let a = span-le (rowsIn F) (p .end) (p .n) in
       let b = w .inside in
       (omega (arith, i .end), omega (arith, i .end, i .n))
@@ -266,19 +249,12 @@ module _ (F : List ℕ) (l : Layout) {breaks continues : Bool} (lp : Loop) (no-b
   Idles p = AllIdle F l (p .end - p .n) (p .end) breaks continues
 
   module _ (p : Part) (w : Within F l p) (a : Idles p) (before : Those (nodeOf F l p .before)) (within : Those (nodeOf F l (nodeOf F l p .children) .children)) where
-    abbrev node-of : IsNode F l p (nodeOf F l p)
-    node-of = is-node F l p w refl
+    inner : (b : Bool) → Still (gen-those b lp (list 0 (listAt F p 0)))
+    inner b = rw (list-zero F l p (node-is F l p w), list-zero F l (nodeOf F l p .children) (node-is F l (nodeOf F l p .children) (node-is F l p w .kids-within))) (within b)
 
-    inner : (b : Bool) → Still (gen-those b lp (list 0 (meaningsAt F (nodeOf F l p .children))))
-    inner b = rw (list-zero F l (nodeOf F l p .children) (is-node F l (nodeOf F l p .children) (node-of .kids-within) refl)) (within b)
-
-    root-still : (p .n ≡ 0 → ⊥) → Still (meaning (recOf F (nodeOf F l p .root)) (meaningsAt F (nodeOf F l p .children)) .gen-statement lp)
-    unfolding resolved
-    root-still z = idle-cases (kindAt F l p) (rw (← last-kind F l p w z) (a (p .end - 1) (omega arith) (omega (arith, w .inside))))
-        (λ k. rw (block-root F l p k) (framed _ (then-still _ _ (inner true) (inner false))))
-        (λ k. rw (list-root F l p k) after-done)
-        (λ k h. rw (break-root F l p k, no-break h) after-done)
-        (λ k h. rw (continue-root F l p k, no-continue h) after-done)
+    last-still : (p .n ≡ 0 → ⊥) → Still (kidAt F p 0 .gen-statement lp)
+    last-still z = idle-still F l p w _ _ (rw (← last-kind F l p w z) (a (p .end - 1) (omega arith) (omega (arith, w .inside)))) lp no-break no-continue
+        (λ _. framed _ (then-still _ _ (inner true) (inner false)))
 
     those-step : Those p
     unfolding meanings
@@ -288,7 +264,7 @@ module _ (F : List ℕ) (l : Layout) {breaks continues : Bool} (lp : Loop) (no-b
         by true q = rw (trees-none F p (eqb-true (p .n) 0 q)) (those-none b)
         by false q =
             let z = eqb-false (p .n) 0 q in
-            rw (trees-more F l p node-of (omega arith)) (those-more b _ _ _ (before b) (root-still z))
+            rw (trees-more F l p (node-is F l p w) (omega arith)) (those-more b _ _ _ (before b) (rw (kid-zero F l p (node-is F l p w)) at (last-still z)))
 
   inside : (p q : Part) → (q .end ≤ p .end) × (p .end - p .n ≤ q .end - q .n) → Idles p → Idles q
   inside p q (u, d) a i x y = a i (omega (arith, d, x)) (omega (arith, u, y))
@@ -298,8 +274,8 @@ module _ (F : List ℕ) (l : Layout) {breaks continues : Bool} (lp : Loop) (no-b
   those-still zero p h w a b = rw (trees-none F p (omega arith)) (those-none b)
   those-still (suc n) p h w a b =
       let kids = nodeOf F l p .children in
-      let g = is-node F l p w refl in
-      let k = is-node F l kids (g .kids-within) refl in
+      let g = node-is F l p w in
+      let k = node-is F l kids (g .kids-within) in
       those-step p w a
       (those-still n (nodeOf F l p .before) (omega (arith, g .apart)) (g .rest-within) (inside p _ (before-inside F l p w) a))
       (those-still n (nodeOf F l kids .children) (omega (arith, g .apart, k .apart)) (k .kids-within) (inside kids _ (kids-inside F l kids (g .kids-within)) (inside p _ (kids-inside F l p w) a))) b
@@ -308,11 +284,11 @@ module _ (F : List ℕ) (l : Layout) {breaks continues : Bool} (lp : Loop) (no-b
 module _ (F : List ℕ) (l : Layout) (p : Part) {kids : Part} (i : IsList F l p 0 kids) where
   pub void-kid : kindAt F l kids ≡ 48 → kid 0 (listAt F p 0) .gen-expr true ≡ done
   unfolding resolved
-  void-kid k = rw (i .means, kid-zero F l kids (is-node F l kids (i .within) refl), void-root F l kids k)
+  void-kid k = rw (i .means, kid-zero F l kids (node-is F l kids (i .within)), void-root F l kids k)
 
   pub idle-hollow : {breaks continues : Bool} → AllIdle F l (kids .end - kids .n) (kids .end) breaks continues → Hollow F p breaks continues
   idle-hollow a lp b c =
-      let k = is-node F l kids (i .within) refl in
+      let k = node-is F l kids (i .within) in
       let t = those-still F l lp b c (kids .n) (nodeOf F l kids .children) (omega (arith, k .apart)) (k .kids-within) (inside F l lp b c kids _ (kids-inside F l kids (i .within)) a) in
       rw (i .means, list-zero F l kids k) (framed _ (then-still _ _ (t true) (t false)))
 

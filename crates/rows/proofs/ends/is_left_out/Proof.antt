@@ -1,7 +1,7 @@
 use mathlib.Core.Path.{sym, _∙_}
 use borrow.Author.Needs.{needs}
 use borrow.Author.Tests.{not-false}
-use Rattle.rows.proofs.Kept.{never, idle-out, void-out, hollow-out}
+use Rattle.rows.proofs.Kept.{never, idle-out, void-out}
 use Rattle.rows.proofs.ends.is_left_out.Statement.{statement}
 use Rattle.rows.proofs.ends.is_left_out.Tie as tie
 
@@ -21,7 +21,9 @@ is-hollow-requires : tie.Need-is-hollow-requires
 is-hollow-requires c κs = search needs
 
 returns-3 : tie.Need-returns-3
-returns-3 c h = hollow-out _ _ _ (c .before .before .before .before .before .before .pre) (sym (c .before .before .before .kind-at .ensures) ∙ c .before .if3 .taken) (not-false _ (c .before .before .before .before .if1 .left)) (c .is-hollow .ensures h)
+returns-3 c h =
+    let k = sym (c .before .before .before .kind-at .ensures) ∙ c .before .if3 .taken in
+    idle-out _ _ _ (c .before .before .before .before .before .before .pre) _ _ (rw k) (not-false _ (c .before .before .before .before .if1 .left)) (λ _. c .is-hollow .ensures h)
 
 is-idle-kind-requires : tie.Need-is-idle-kind-requires
 is-idle-kind-requires c κs = search needs
@@ -29,7 +31,7 @@ is-idle-kind-requires c κs = search needs
 returns-4 : tie.Need-returns-4
 returns-4 c h =
     let k = c .before .before .before .kind-at .ensures in
-    idle-out _ _ _ (c .before .before .before .before .before .before .pre) (λ x. c .before .if3 .left (k ∙ x)) (not-false _ (c .before .before .before .before .if1 .left)) (rw (← k) (sym (c .is-idle-kind .ensures) ∙ h))
+    idle-out _ _ _ (c .before .before .before .before .before .before .pre) _ _ (rw (← k) (sym (c .is-idle-kind .ensures) ∙ h)) (not-false _ (c .before .before .before .before .if1 .left)) (λ x. absurd (c .before .if3 .left (k ∙ x)))
 
 pub is-left-out-spec : {M : Type 1} → statement M
 is-left-out-spec =
