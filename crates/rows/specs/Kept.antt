@@ -8,11 +8,13 @@ use lib.Dec.{eqb}
 use lib.ListN.{getD}
 use Rattle.script_records.specs.declared.layout.Layout.{Layout}
 use Rattle.script_records.specs.declared.part.Part.{Part}
-use Rattle.script_records.specs.Layout.{spanAt}
-use Rattle.lowering.specs.Meaning.{Loop}
+use Rattle.script_records.specs.Layout.{rowsOf, rowIn, spanAt}
+use Rattle.lowering.specs.Meaning.{Loop, list, element}
+use Rattle.lowering.specs.Meaning as meaning
+use Rattle.lowering.specs.Statement.{gen-block}
 use Rattle.codegen_state.specs.View.{Held, after}
 use Rattle.tree.specs.Trees.{rowsIn}
-use Rattle.tree.specs.Within.{Within, meaningsAt}
+use Rattle.tree.specs.Within.{Within, meaningsAt, kidAt, listAt}
 use Rattle.builder.specs.Labels.{labels-of}
 use Rattle.rows.specs.declared.Each.{Each}
 use Rattle.rows.specs.declared.Each.the-variants.{Expr, Discarded, Field, Statement, Hoisted, Unhoisted, Conditional, Element}
@@ -33,9 +35,37 @@ abbrev pub isNowhere : Option ℕ → Bool
 isNowhere none = true
 isNowhere (some label) = false
 
--- a Break (kind 8) or a Continue (kind 9), if such a one generates nothing
-abbrev pub leftOut : (kind : ℕ) → (breaks continues : Bool) → Bool
-leftOut kind breaks continues = cond (eqb kind 8) breaks (eqb kind 9 && continues)
+-- the last tree, as a statement of a row, generates nothing and has no label
+abbrev pub Quiet : List ℕ → Part → Each → Loop → Type 0
+Quiet F p e lp =
+    (ofStatements e ≡ true) × ((v : Held (Unit {0})) → after v (kidAt F p 0 .gen-statement lp) ≡ v) × (element (kidAt F p 0 .rec) ≡ meaning.statement)
+
+-- Block, list, Break and Continue: of such a kind a statement generates nothing if those in it generate nothing
+abbrev pub idleKind : (kind : ℕ) → (breaks continues : Bool) → Bool
+idleKind kind breaks continues = cond (eqb kind 4) true (cond (eqb kind 97) true (cond (eqb kind 8) breaks (eqb kind 9 && continues)))
+
+-- the records from lo up to e are of such kinds
+abbrev pub AllIdle : List ℕ → Layout → (lo e : ℕ) → (breaks continues : Bool) → Type 0
+AllIdle F l lo e breaks continues = (i : ℕ) → lo ≤ i → i < e → idleKind (rowIn (rowsOf F l) i .kind) breaks continues ≡ true
+
+-- the last tree, if it is a Block, generates nothing where Break and Continue do not
+abbrev pub Hollow : List ℕ → Part → (breaks continues : Bool) → Type 0
+Hollow F p breaks continues = (lp : Loop) → (breaks ≡ true → lp .break-label ≡ none) → (continues ≡ true → lp .continue-label ≡ none) →
+    (v : Held (Unit {0})) → after v (gen-block lp (list 0 (listAt F p 0))) ≡ v
+
+-- what is known of a row and of the loop around: whether Break, Continue and other statements may be left out
+pub record Lasting (breaks continues statements : Bool) (e : Each) (lp : Loop) : Type 0 where
+  pub breaks-is : breaks ≡ (isNowhere (lp .break-label) && ofStatements e)
+  pub continues-is : continues ≡ (isNowhere (lp .continue-label) && ofStatements e)
+  pub statements-is : statements ≡ ofStatements e
+
+abbrev pub LeftOut : List ℕ → Part → (breaks continues statements : Bool) → Type 0
+LeftOut F p breaks continues statements = (e : Each) (lp : Loop) → Lasting breaks continues statements e lp → Quiet F p e lp
+
+-- r is 1 if the last tree is kept; it is 0 only if that generates nothing
+pub record KeptOrOut (F : List ℕ) (p : Part) (breaks continues statements : Bool) (r : ℕ) : Type 0 where
+  pub most : r ≤ 1
+  pub out : r ≡ 0 → LeftOut F p breaks continues statements
 
 -- the trees that start at record lo and end before record e, and where the last of them starts
 abbrev pub upto : (lo e : ℕ) → Part
