@@ -39,7 +39,7 @@ use Rattle.builder.specs.Labels.{labels-of, one-label}
 use Rattle.rows.specs.declared.Each.{Each}
 use Rattle.rows.specs.declared.Each.the-variants.{Expr, Discarded, Field, Statement, Hoisted, Unhoisted, Conditional, Element}
 use Rattle.rows.specs.Rows.{oneOf, eachOf, cases-of, one-case}
-use Rattle.rows.specs.Kept.{ofStatements, isNowhere, idleKind, AllIdle, Hollow, Quiet, Lasting, LeftOut, KeptOrOut, upto, startOf, Idle, Kept}
+use Rattle.rows.specs.Kept.{ofStatements, ofValues, isNowhere, idleKind, AllIdle, Hollow, Quiet, Lasting, LeftOut, KeptOrOut, upto, startOf, Idle, Kept}
 
 -- a row, by its last tree
 module _ (F : List ℕ) (l : Layout) (p : Part) {t : Node} (i : IsNode F l p t) (h : 0 < p .n) where
@@ -174,11 +174,11 @@ module _ (F : List ℕ) (l : Layout) (p : Part) (w : Within F l p) where
         (λ k b. rw (break-root F l p k))
         (λ k b. rw (continue-root F l p k)))
 
-    pub idle-out : {statements : Bool} → statements ≡ true → (kindAt F l p ≡ 4 → Hollow F p breaks continues) → LeftOut F p breaks continues statements
+    pub idle-out : {statements values : Bool} → statements ≡ true → (kindAt F l p ≡ 4 → Hollow F p breaks continues) → LeftOut F p breaks continues statements values
     idle-out s block e lp o =
         let b : breaks ≡ true → lp .break-label ≡ none = λ x. nowhere (lp .break-label) (ofStatements e) (sym (o .breaks-is) ∙ x) in
         let c : continues ≡ true → lp .continue-label ≡ none = λ x. nowhere (lp .continue-label) (ofStatements e) (sym (o .continues-is) ∙ x) in
-        (sym (o .statements-is) ∙ s, idle-still lp b c (λ k. block k lp b c), idle-label)
+        (λ f d t n. one-quiet lp f d t n _ _ (idle-still lp b c (λ k. block k lp b c)) idle-label e (sym (o .statements-is) ∙ s), idle-label)
 
   -- an expression that generates nothing
   void-still : kindAt F l p ≡ 3 → kid 0 (listAt F p 0) .gen-expr true ≡ done → (lp : Loop) → Still (kidAt F p 0 .gen-statement lp)
@@ -191,8 +191,24 @@ module _ (F : List ℕ) (l : Layout) (p : Part) (w : Within F l p) where
   unfolding resolved
   void-label k = rw (kid-zero F l p node-is, expr-root F l p k)
 
-  pub void-out : {breaks continues statements : Bool} → kindAt F l p ≡ 3 → statements ≡ true → kid 0 (listAt F p 0) .gen-expr true ≡ done → LeftOut F p breaks continues statements
-  void-out k s h e lp o = (sym (o .statements-is) ∙ s, void-still k h lp, void-label k)
+  pub void-out : {breaks continues statements values : Bool} → kindAt F l p ≡ 3 → statements ≡ true → kid 0 (listAt F p 0) .gen-expr true ≡ done → LeftOut F p breaks continues statements values
+  void-out k s h e lp o = (λ f d t n. one-quiet lp f d t n _ _ (void-still k h lp) (void-label k) e (sym (o .statements-is) ∙ s), void-label k)
+
+  -- in a row of expressions
+  value-quiet : kindAt F l p ≡ 48 → (e : Each) (lp : Loop) (f d s c : ℕ) → ofValues e ≡ true → Still (oneOf e lp f d s c (kidAt F p 0) (listAt F p 0))
+  unfolding resolved
+  value-quiet k Expr lp f d s c h = rw (kid-zero F l p node-is, void-root F l p k) after-done
+  value-quiet k Discarded lp f d s c h = rw (kid-zero F l p node-is, void-root F l p k) (framed done after-done)
+  value-quiet k Field lp f d s c h = never h
+  value-quiet k Statement lp f d s c h = never h
+  value-quiet k Hoisted lp f d s c h = never h
+  value-quiet k Unhoisted lp f d s c h = never h
+  value-quiet k Conditional lp f d s c h = never h
+  value-quiet k Element lp f d s c h = never h
+
+  pub value-out : {breaks continues statements values : Bool} → kindAt F l p ≡ 48 → values ≡ true → LeftOut F p breaks continues statements values
+  unfolding resolved
+  value-out k h e lp o = (λ f d s c. value-quiet k e lp f d s c (sym (o .values-is) ∙ h), rw (kid-zero F l p node-is, void-root F l p k))
 
 -- the records that were looked at, and one more
 module _ (F : List ℕ) (l : Layout) (breaks continues : Bool) (lo : ℕ) where
@@ -304,14 +320,14 @@ before-is F l lo j g a u = part-is _ _ _ (g .end) (g .n ∙ sub-sub j lo _ _ a u
 
 module _ (F : List ℕ) (l : Layout) (lo j : ℕ) (w : Within F l (upto lo j)) (a : lo ≤ startOf F lo j) (u : startOf F lo j < j) (e : Each) (lp : Loop) where
   tree-idle : Quiet F (upto lo j) e lp → Idle F e lp lo (startOf F lo j) j
-  tree-idle (s, q, n) =
+  tree-idle (q, n) =
       let g = is-node F l (upto lo j) w refl in
       let z : 0 < j - lo = omega (arith, a, u) in
       let m = before-is F l lo j g a u in
       let r : element (recOf F (nodeOf F l (upto lo j) .root)) ≡ meaning.statement = sym (ap (λ (x : Meaning). element (x .rec)) (kid-zero F l (upto lo j) g)) ∙ n in
       record {
         up = omega (arith, u);
-        same = λ f d v. rw (each-more F l (upto lo j) g z e lp f d, m, after-then) (one-quiet lp f d _ _ (kidAt F (upto lo j) 0) (listAt F (upto lo j) 0) q n e s _);
+        same = λ f d v. rw (each-more F l (upto lo j) g z e lp f d, m, after-then) (q f d _ _ _);
         labels = let x = labels-more F l (upto lo j) g z in rw (m, r) at x ∙ add-zero _;
         cases = let x = cases-more F l (upto lo j) g z in rw (m, r) at x ∙ add-zero _;
       }
@@ -353,8 +369,8 @@ same-part : (lo : ℕ) (g : Part) → g .end ≡ lo + g .n → upto lo (g .end) 
 same-part lo g e = let d : g .end - lo ≡ g .n = omega arith in rw d
 
 -- the loop: of the trees after g, which is a part of g0, the ends are in x
-pub record EndsInv (F : List ℕ) (l : Layout) (x0 : List ℕ) (breaks continues statements : Bool) (g0 : Part) (x : List ℕ) (g : Part) (top : ℕ) : Type 0 where
-  pub kept : (e : Each) (lp : Loop) → Lasting breaks continues statements e lp → Kept F l e lp (g0 .end - g0 .n) x top (g .end) (g0 .end)
+pub record EndsInv (F : List ℕ) (l : Layout) (x0 : List ℕ) (breaks continues statements values : Bool) (g0 : Part) (x : List ℕ) (g : Part) (top : ℕ) : Type 0 where
+  pub kept : (e : Each) (lp : Loop) → Lasting breaks continues statements values e lp → Kept F l e lp (g0 .end - g0 .n) x top (g .end) (g0 .end)
   pub end : g .end ≡ g0 .end - g0 .n + g .n
   pub start : g0 .n ≤ g0 .end
   pub within : Within F l g
@@ -363,9 +379,9 @@ pub record EndsInv (F : List ℕ) (l : Layout) (x0 : List ℕ) (breaks continues
   pub room : g0 .n ≤ length x0
   pub small : g0 .n < 65536
 
-pub ends-start : (F : List ℕ) (l : Layout) (x : List ℕ) (breaks continues statements : Bool) (g : Part) → Within F l g → g .n ≤ length x → EndsInv F l x breaks continues statements g x g 0
+pub ends-start : (F : List ℕ) (l : Layout) (x : List ℕ) (breaks continues statements values : Bool) (g : Part) → Within F l g → g .n ≤ length x → EndsInv F l x breaks continues statements values g x g 0
 unfolding Kept
-ends-start F l x breaks continues statements g i r = record {
+ends-start F l x breaks continues statements values g i r = record {
   kept = λ e lp o. idle-none (g .end);
   end = omega (arith, i .inside);
   start = i .inside;
@@ -376,7 +392,7 @@ ends-start F l x breaks continues statements g i r = record {
   small = omega (arith, i .inside, i .known, i .sound .few);
 }
 
-module _ {F : List ℕ} {l : Layout} {x0 : List ℕ} {breaks continues statements : Bool} {g0 : Part} {x : List ℕ} {g : Part} {top : ℕ} (i : EndsInv F l x0 breaks continues statements g0 x g top) (h : g .n ≡ 0 → ⊥) where
+module _ {F : List ℕ} {l : Layout} {x0 : List ℕ} {breaks continues statements values : Bool} {g0 : Part} {x : List ℕ} {g : Part} {top : ℕ} (i : EndsInv F l x0 breaks continues statements values g0 x g top) (h : g .n ≡ 0 → ⊥) where
   pub ends-inside : top < length x
   ends-inside = omega (arith, i .less, i .scratch, i .room)
 
@@ -401,7 +417,7 @@ module _ {F : List ℕ} {l : Layout} {x0 : List ℕ} {breaks continues statement
   low : lo ≤ startOf F lo (g .end)
   low = rw start-is (omega (arith, before-end))
 
-  step : (r : ℕ) → KeptOrOut F g breaks continues statements r → (o : Each) (lp : Loop) → Lasting breaks continues statements o lp →
+  step : (r : ℕ) → KeptOrOut F g breaks continues statements values r → (o : Each) (lp : Loop) → Lasting breaks continues statements values o lp →
       Kept F l o lp lo (set x top (g .end)) (top + r) (nodeOf F l g .before .end) (g0 .end)
   step zero k o lp a =
       let q : Quiet F (upto lo (g .end)) o lp = rw (same-part lo g (i .end)) (k .out refl o lp a) in
@@ -412,7 +428,7 @@ module _ {F : List ℕ} {l : Layout} {x0 : List ℕ} {breaks continues statement
       let one : suc r ≡ 1 = omega (arith, k .most) in
       rw (one, ← start-is) (kept-push F l o lp lo x top (g .end) (g0 .end) ends-inside down (omega (arith, i .end, i .start, i .less)) in-row (i .kept o lp a))
 
-  next : {r : ℕ} → KeptOrOut F g breaks continues statements r → EndsInv F l x0 breaks continues statements g0 (set x top (g .end)) (nodeOf F l g .before) (top + r)
+  next : {r : ℕ} → KeptOrOut F g breaks continues statements values r → EndsInv F l x0 breaks continues statements values g0 (set x top (g .end)) (nodeOf F l g .before) (top + r)
   next k = record {
     kept = step _ k;
     end = before-end;
@@ -424,17 +440,17 @@ module _ {F : List ℕ} {l : Layout} {x0 : List ℕ} {breaks continues statement
     small = i .small;
   }
 
-  pub ends-again : {rest : Part} {r : ℕ} → rest ≡ nodeOf F l g .before → KeptOrOut F g breaks continues statements r → EndsInv F l x0 breaks continues statements g0 (set x top (g .end)) rest (top + r)
+  pub ends-again : {rest : Part} {r : ℕ} → rest ≡ nodeOf F l g .before → KeptOrOut F g breaks continues statements values r → EndsInv F l x0 breaks continues statements values g0 (set x top (g .end)) rest (top + r)
   ends-again e k = rw e (next k)
 
-  pub ends-few : {r : ℕ} → KeptOrOut F g breaks continues statements r → top + r < 65536
+  pub ends-few : {r : ℕ} → KeptOrOut F g breaks continues statements values r → top + r < 65536
   ends-few k = omega (arith, k .most, i .less, i .small)
 
   pub ends-less : {rest : Part} → rest ≡ nodeOf F l g .before → rest .n < g .n
   ends-less e = rw e (omega (arith, node .apart))
 
-pub ends-done : {F : List ℕ} {l : Layout} {x0 : List ℕ} {breaks continues statements : Bool} {g0 : Part} {x : List ℕ} {g : Part} {top : ℕ} →
-    EndsInv F l x0 breaks continues statements g0 x g top → g .n ≡ 0 → (e : Each) (lp : Loop) → Lasting breaks continues statements e lp →
+pub ends-done : {F : List ℕ} {l : Layout} {x0 : List ℕ} {breaks continues statements values : Bool} {g0 : Part} {x : List ℕ} {g : Part} {top : ℕ} →
+    EndsInv F l x0 breaks continues statements values g0 x g top → g .n ≡ 0 → (e : Each) (lp : Loop) → Lasting breaks continues statements values e lp →
     Kept F l e lp (g0 .end - g0 .n) x top (g0 .end - g0 .n) (g0 .end)
 ends-done {g0 = g0} {x} {g} {top} i z e lp a =
     let d : g .end ≡ g0 .end - g0 .n = omega (arith, i .end) in

@@ -18,7 +18,7 @@ use Rattle.tree.specs.Within.{Within, meaningsAt, kidAt, listAt}
 use Rattle.builder.specs.Labels.{labels-of}
 use Rattle.rows.specs.declared.Each.{Each}
 use Rattle.rows.specs.declared.Each.the-variants.{Expr, Discarded, Field, Statement, Hoisted, Unhoisted, Conditional, Element}
-use Rattle.rows.specs.Rows.{eachOf, cases-of}
+use Rattle.rows.specs.Rows.{oneOf, eachOf, cases-of}
 
 -- rows whose trees are generated as statements
 abbrev pub ofStatements : Each → Bool
@@ -35,10 +35,20 @@ abbrev pub isNowhere : Option ℕ → Bool
 isNowhere none = true
 isNowhere (some label) = false
 
--- the last tree, as a statement of a row, generates nothing and has no label
+-- rows of expressions alone, for their values or for their effects
+abbrev pub ofValues : Each → Bool
+ofValues Expr = true
+ofValues Discarded = true
+ofValues Field = false
+ofValues Statement = false
+ofValues Hoisted = false
+ofValues Unhoisted = false
+ofValues Conditional = false
+ofValues Element = false
+
+-- a row's step for its last tree generates nothing, and that has no label
 abbrev pub Quiet : List ℕ → Part → Each → Loop → Type 0
-Quiet F p e lp =
-    (ofStatements e ≡ true) × ((v : Held (Unit {0})) → after v (kidAt F p 0 .gen-statement lp) ≡ v) × (element (kidAt F p 0 .rec) ≡ meaning.statement)
+Quiet F p e lp = ((f d s c : ℕ) (v : Held (Unit {0})) → after v (oneOf e lp f d s c (kidAt F p 0) (listAt F p 0)) ≡ v) × (element (kidAt F p 0 .rec) ≡ meaning.statement)
 
 -- Block, list, Break and Continue: of such a kind a statement generates nothing if those in it generate nothing
 abbrev pub idleKind : (kind : ℕ) → (breaks continues : Bool) → Bool
@@ -53,19 +63,20 @@ abbrev pub Hollow : List ℕ → Part → (breaks continues : Bool) → Type 0
 Hollow F p breaks continues = (lp : Loop) → (breaks ≡ true → lp .break-label ≡ none) → (continues ≡ true → lp .continue-label ≡ none) →
     (v : Held (Unit {0})) → after v (gen-block lp (list 0 (listAt F p 0))) ≡ v
 
--- what is known of a row and of the loop around: whether Break, Continue and other statements may be left out
-pub record Lasting (breaks continues statements : Bool) (e : Each) (lp : Loop) : Type 0 where
+-- what is known of a row and of the loop around: whether Break, Continue, other statements and expressions may be left out
+pub record Lasting (breaks continues statements values : Bool) (e : Each) (lp : Loop) : Type 0 where
   pub breaks-is : breaks ≡ (isNowhere (lp .break-label) && ofStatements e)
   pub continues-is : continues ≡ (isNowhere (lp .continue-label) && ofStatements e)
   pub statements-is : statements ≡ ofStatements e
+  pub values-is : values ≡ ofValues e
 
-abbrev pub LeftOut : List ℕ → Part → (breaks continues statements : Bool) → Type 0
-LeftOut F p breaks continues statements = (e : Each) (lp : Loop) → Lasting breaks continues statements e lp → Quiet F p e lp
+abbrev pub LeftOut : List ℕ → Part → (breaks continues statements values : Bool) → Type 0
+LeftOut F p breaks continues statements values = (e : Each) (lp : Loop) → Lasting breaks continues statements values e lp → Quiet F p e lp
 
 -- r is 1 if the last tree is kept; it is 0 only if that generates nothing
-pub record KeptOrOut (F : List ℕ) (p : Part) (breaks continues statements : Bool) (r : ℕ) : Type 0 where
+pub record KeptOrOut (F : List ℕ) (p : Part) (breaks continues statements values : Bool) (r : ℕ) : Type 0 where
   pub most : r ≤ 1
-  pub out : r ≡ 0 → LeftOut F p breaks continues statements
+  pub out : r ≡ 0 → LeftOut F p breaks continues statements values
 
 -- the trees that start at record lo and end before record e, and where the last of them starts
 abbrev pub upto : (lo e : ℕ) → Part

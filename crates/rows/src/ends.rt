@@ -7,7 +7,7 @@ ghost use Rattle.lowering.specs.Builder.{done};
 ghost use Rattle.lowering.specs.Meaning.{kid};
 ghost use Rattle.tree.specs.Within.{Within, listAt};
 ghost use Rattle.rows.specs.Rows.{labelOf, loopOf};
-ghost use Rattle.rows.specs.Kept.{ofStatements, isNowhere, idleKind, AllIdle, Hollow, LeftOut, KeptOrOut, Kept};
+ghost use Rattle.rows.specs.Kept.{ofStatements, ofValues, isNowhere, idleKind, AllIdle, Hollow, LeftOut, KeptOrOut, Kept};
 use crate::Each;
 use crate::Loop;
 use crate::Target;
@@ -30,6 +30,21 @@ fn of_statements(what: Each) -> bool
         Each::Unhoisted => true,
         Each::Conditional => false,
         Each::Element => true,
+    }
+}
+
+fn of_values(what: Each) -> bool
+    ensures { λ r. ⌜ r ≡ ofValues what ⌝ }
+{
+    match what {
+        Each::Expr => true,
+        Each::Discarded => true,
+        Each::Field => false,
+        Each::Statement => false,
+        Each::Hoisted => false,
+        Each::Unhoisted => false,
+        Each::Conditional => false,
+        Each::Element => false,
     }
 }
 
@@ -110,10 +125,14 @@ fn is_left_out(
     breaks: bool,
     continues: bool,
     statements: bool,
+    values: bool,
 ) -> bool
     requires { ⌜ Within (now file) l p ⌝ }
-    ensures { λ r. ⌜ (r ≡ true → LeftOut (now (file .entry)) p breaks continues statements) ⌝ }
+    ensures { λ r. ⌜ (r ≡ true → LeftOut (now (file .entry)) p breaks continues statements values) ⌝ }
 {
+    if values {
+        return kind_at(file, l, p) == 48;
+    }
     if !statements {
         return false;
     }
@@ -127,19 +146,27 @@ fn is_left_out(
     is_idle_kind(kind, breaks, continues)
 }
 
-fn kept(file: &[u8], l: Layout, p: Part, breaks: bool, continues: bool, statements: bool) -> usize
+fn kept(
+    file: &[u8],
+    l: Layout,
+    p: Part,
+    breaks: bool,
+    continues: bool,
+    statements: bool,
+    values: bool,
+) -> usize
     requires { ⌜ Within (now file) l p ⌝ }
-    ensures { λ r. ⌜ KeptOrOut (now (file .entry)) p breaks continues statements r ⌝ }
+    ensures { λ r. ⌜ KeptOrOut (now (file .entry)) p breaks continues statements values r ⌝ }
 {
-    if is_left_out(file, l, p, breaks, continues, statements) {
+    if is_left_out(file, l, p, breaks, continues, statements, values) {
         0
     } else {
         1
     }
 }
 
-// How many trees of a row are to be generated. Where each of them ends is left in `scratch`, the last lowest; statements that generate
-// nothing are left out, since a row may have 50,000 of them and be generated again and again.
+// How many trees of a row are to be generated. Where each of them ends is left in `scratch`, the last lowest; what generates nothing
+// is left out, since a row may have 50,000 of them and be generated again and again.
 pub fn ends_of(
     file: &[u8],
     l: Layout,
@@ -157,11 +184,12 @@ pub fn ends_of(
     let breaks = is_idle(what, exit);
     let continues = is_idle(what, next);
     let statements = of_statements(what);
+    let values = of_values(what);
     let mut left = p;
     let mut top: usize = 0;
     while left.n != 0 {
         scratch[top] = left.end;
-        top += kept(file, l, left, breaks, continues, statements);
+        top += kept(file, l, left, breaks, continues, statements, values);
         let before = rest_of(file, l, left);
         left = before;
     }

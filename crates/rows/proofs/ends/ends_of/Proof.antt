@@ -6,10 +6,10 @@ use Rattle.rows.proofs.ends.ends_of.Statement.{statement}
 use Rattle.rows.proofs.ends.ends_of.Tie as tie
 
 abbrev Inv-loop : tie.InvT-loop
-Inv-loop file l scratch₀ breaks continues statements left₀ top₀ scratch left top = EndsInv file l scratch₀ breaks continues statements left₀ scratch left top
+Inv-loop file l scratch₀ breaks continues statements values left₀ top₀ scratch left top = EndsInv file l scratch₀ breaks continues statements values left₀ scratch left top
 
 abbrev μ-loop : tie.MeasureT-loop
-μ-loop file l scratch₀ breaks continues statements left₀ top₀ scratch left top = left .n
+μ-loop file l scratch₀ breaks continues statements values left₀ top₀ scratch left top = left .n
 
 is-idle-requires : tie.Need-is-idle-requires Inv-loop μ-loop
 is-idle-requires c κs = search needs
@@ -19,6 +19,9 @@ is-idle-requires-2 c κs = search needs
 
 of-statements-requires : tie.Need-of-statements-requires Inv-loop μ-loop
 of-statements-requires c κs = search needs
+
+of-values-requires : tie.Need-of-values-requires Inv-loop μ-loop
+of-values-requires c κs = search needs
 
 loop-holds : tie.Need-loop-holds Inv-loop μ-loop
 loop-holds c = search (needs, ends-start)
@@ -49,9 +52,10 @@ same-length c = search needs
 
 returns : tie.Need-returns Inv-loop μ-loop
 returns c = ends-done (c .before .before .loop .inv) (c .if1 .left) _ _ (record {
-  breaks-is = c .before .before .before .before .before .is-idle .ensures;
-  continues-is = c .before .before .before .before .is-idle2 .ensures;
-  statements-is = c .before .before .before .of-statements .ensures;
+  breaks-is = c .before .before .before .before .before .before .is-idle .ensures;
+  continues-is = c .before .before .before .before .before .is-idle2 .ensures;
+  statements-is = c .before .before .before .before .of-statements .ensures;
+  values-is = c .before .before .before .of-values .ensures;
 })
 
 pub ends-of-spec : {M : Type 1} → statement M
@@ -63,6 +67,7 @@ ends-of-spec =
     is-idle-requires
     is-idle-requires-2
     of-statements-requires
+    of-values-requires
     loop-holds
     mul-scratch
     slice-write-scratch
