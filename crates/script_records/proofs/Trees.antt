@@ -1,6 +1,6 @@
 -- Laws of the subtrees of a part of the records.
 use Prim.Native.Nat.{ℕ, zero, suc, _+_, _-_, _≤_, _<_, min, max}
-use mathlib.Core.Path.{_≡_, refl, ap}
+use mathlib.Core.Path.{_≡_, refl, ap, _∙_}
 use mathlib.Core.List.{List}
 use native.Mathlib.Omega.{arith}
 use Rattle.hir.specs.Tree.{Forest, none, more}
@@ -73,6 +73,6 @@ unfolding lastTree spanAt
 tree-made rs p a b c d e f = cc
 
 -- a tree as large as its record says
-pub tree-sized : (rs : List Row) (p : Part) (s : ℕ) {row : Row} {at k e n : ℕ} → at ≡ p .end - 1 → row ≡ rowIn rs at → row .size ≡ s → 1 ≤ s → s ≤ p .n → k ≡ s - 1 → e ≡ p .end - s → n ≡ p .n - s
-    → _≡_ {A = Tree} (record { row = row; children = record { end = at; n = k }; before = record { end = e; n = n } }) (lastTree rs p)
-tree-sized rs p s a b size some room c e n = tree-made rs p {s = s} a b (omega arith) c e n
+pub tree-sized : (rs : List Row) (p : Part) (s : ℕ) {row : Row} {at : ℕ} {t : Tree} → at ≡ p .end - 1 → row ≡ rowIn rs at → row .size ≡ s → 1 ≤ s → s ≤ p .n →
+    t ≡ record { row = row; children = record { end = at; n = s - 1 }; before = record { end = p .end - s; n = p .n - s } } → t ≡ lastTree rs p
+tree-sized rs p s a b size some room e = e ∙ tree-made rs p {s = s} a b (omega arith) refl refl refl

@@ -1,6 +1,6 @@
 // Subtrees in a row, as the children of a record are. They are walked from the last to the first.
 ghost use mathlib.Core.Path.{_≡_};
-ghost use Prim.Native.Nat.{_-_, min, max};
+ghost use Prim.Native.Nat.{_-_, _≤_, min, max};
 ghost use Rattle.script_records.specs.Layout.{rowsOf};
 ghost use Rattle.script_records.specs.Parts.{lastTree};
 use crate::layout::Layout;
@@ -40,31 +40,39 @@ fn span(size: u32, n: usize) -> usize
     if n == 0 { 0 } else { 1 }
 }
 
+// The last subtree, if it has so many records.
+fn sized(row: Row, p: Part, at: usize, s: usize) -> Tree
+    requires { ⌜ 1 ≤ s ⌝ }
+    requires { ⌜ s ≤ p .n ⌝ }
+    ensures { λ r. ⌜ r ≡ record { row = row; children = record { end = at; n = s - 1 }; before = record { end = p .end - s; n = p .n - s } } ⌝ }
+{
+    let end = minus(p.end, s);
+    Tree {
+        row,
+        children: Part { end: at, n: s - 1 },
+        before: Part { end, n: p.n - s },
+    }
+}
+
 pub fn last_tree(file: &[u8], l: Layout, p: Part) -> Tree
     ensures { λ r. ⌜ r ≡ lastTree (rowsOf (now (file .entry)) l) p ⌝ }
 {
     let at = minus(p.end, 1);
     let row = crate::layout::row_at(file, l, at);
-    // Most trees have one record or two: a branch lets the processor go on before the size is read.
+    // Most trees have one to three records: a branch lets the processor go on before the size is read.
     if row.size == 1 {
         if 1 <= p.n {
-            let n = p.n - 1;
-            return Tree {
-                row,
-                children: Part { end: at, n: 0 },
-                before: Part { end: at, n },
-            };
+            return sized(row, p, at, 1);
         }
     }
     if row.size == 2 {
         if 2 <= p.n {
-            let end = minus(p.end, 2);
-            let n = p.n - 2;
-            return Tree {
-                row,
-                children: Part { end: at, n: 1 },
-                before: Part { end, n },
-            };
+            return sized(row, p, at, 2);
+        }
+    }
+    if row.size == 3 {
+        if 3 <= p.n {
+            return sized(row, p, at, 3);
         }
     }
     let s = span(row.size, p.n);
