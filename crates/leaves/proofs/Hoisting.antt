@@ -8,11 +8,10 @@ use Rattle.script_records.specs.declared.layout.Layout.{Layout}
 use Rattle.script_records.specs.declared.part.Part.{Part}
 use Rattle.lowering.specs.Meaning.{hoisted}
 use Rattle.lowering.specs.Statement.{meanings}
-use Rattle.tree.specs.Trees.{trees, nodeOf, kindAt}
+use Rattle.tree.specs.Trees.{trees, nodeOf}
 use Rattle.tree.specs.Within.{Within, meaningsAt, kidAt, listAt}
 use Rattle.tree.proofs.Nodes.{is-node, trees-more, trees-none}
 use Rattle.rows.specs.Rows.{any-hoisted}
-use Rattle.leaves.proofs.Records.{of-other-kind}
 
 -- none of the trees after `left` is hoisted
 pub record Looked (F : List ℕ) (l : Layout) (p left : Part) : Type 0 where
@@ -40,7 +39,4 @@ module _ {F : List ℕ} {l : Layout} {p left : Part} (v : Looked F l p left) whe
 
     pub looked-more : {r : Part} {h : Bool} → h ≡ hoisted (kidAt F left 0 .rec) (listAt F left 0) → h ≡ false → r ≡ nodeOf F l left .before → Looked F l p r
     looked-more e f q = rw q (record { within = is-node F l left (v .within) refl .rest-within; same = rw (more, ← e, f) at (v .same) })
-
     -- the kind tells that the next is none
-    pub looked-other : {r : Part} {k : ℕ} → k ≡ kindAt F l left → (k ≡ 3 → ⊥) → r ≡ nodeOf F l left .before → Looked F l p r
-    looked-other e h q = looked-more (of-other-kind F l left (v .within) (rw e at h)) refl q

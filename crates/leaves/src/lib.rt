@@ -1,7 +1,7 @@
 // Steps that emit, but generate no part of the tree.
 ghost use mathlib.Core.Path.{_≡_};
 ghost use mathlib.Core.List.{List, []};
-ghost use mathlib.Core.Bool.{cond, not, _&&_, _||_};
+ghost use mathlib.Core.Bool.{false, cond, not, _&&_, _||_};
 ghost use Prim.Native.Nat.{ℕ, _+_, _-_, _*_, _%_, _<_, _≤_};
 ghost use lib.Dec.{T, ltb, eqb};
 ghost use lib.ListN.{length};
@@ -350,15 +350,22 @@ fn is_named(file: &[u8], l: Layout, p: Part) -> bool
 }
 
 // Most statements are none, which their kind tells, and most of those that are expressions are no functions, which their child's kind tells.
-pub fn is_hoisted(file: &[u8], l: Layout, p: Part) -> bool
+fn may_be_hoisted(file: &[u8], l: Layout, p: Part) -> bool
     requires { ⌜ Within (now file) l p ⌝ }
-    ensures { λ r. ⌜ r ≡ hoisted (kidAt (now (file .entry)) p 0 .rec) (listAt (now (file .entry)) p 0) ⌝ }
+    ensures { λ r. ⌜ (r ≡ false → false ≡ hoisted (kidAt (now (file .entry)) p 0 .rec) (listAt (now (file .entry)) p 0)) ⌝ }
 {
     if kind_at(file, l, p) != 3 {
         return false;
     }
     let kids = list_at(file, l, p, 0);
-    if kind_at(file, l, kids) != 49 {
+    kind_at(file, l, kids) == 49
+}
+
+pub fn is_hoisted(file: &[u8], l: Layout, p: Part) -> bool
+    requires { ⌜ Within (now file) l p ⌝ }
+    ensures { λ r. ⌜ r ≡ hoisted (kidAt (now (file .entry)) p 0 .rec) (listAt (now (file .entry)) p 0) ⌝ }
+{
+    if !may_be_hoisted(file, l, p) {
         return false;
     }
     is_named(file, l, p)
@@ -371,8 +378,8 @@ pub fn has_hoisted(file: &[u8], l: Layout, p: Part) -> bool
 {
     let mut left = p;
     while left.n != 0 {
-        if kind_at(file, l, left) == 3 {
-            if is_hoisted(file, l, left) {
+        if may_be_hoisted(file, l, left) {
+            if is_named(file, l, left) {
                 return true;
             }
         }
