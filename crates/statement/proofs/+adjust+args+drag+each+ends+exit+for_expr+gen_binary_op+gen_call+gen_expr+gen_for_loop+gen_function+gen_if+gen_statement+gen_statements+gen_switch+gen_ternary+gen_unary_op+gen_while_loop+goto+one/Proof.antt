@@ -162,6 +162,7 @@ use Rattle.tree.proofs.kid_at.Reads as kid-at-reads
 use Rattle.tree.proofs.list_at.Reads as list-at-reads
 use Rattle.tree.proofs.node_at.Reads as node-at-reads
 use Rattle.tree.proofs.rest_of.Reads as rest-of-reads
+use Rattle.tree.proofs.width_of.Reads as width-of-reads
 use Rattle.statement.proofs.+adjust+args+drag+each+ends+exit+for_expr+gen_binary_op+gen_call+gen_expr+gen_for_loop+gen_function+gen_if+gen_statement+gen_statements+gen_switch+gen_ternary+gen_unary_op+gen_while_loop+goto+one.{
   statement,
 }
@@ -975,7 +976,7 @@ gen-binary-op-returns-6 : (t : ℕ) → gen-binary-op-lts.Need-returns-6 (gen-bi
 gen-binary-op-returns-6 t c = rw (← c .before .before .before .before .before .before .before .before .before .before .before .before .before .before .before .before .before .before .before .before .before .before .before .before .before .before .before .before .before .before .before .before .before .plan-of .ensures, (c .before .before .before .before .before .before .before .before .before .before .before .before .before .before .before .before .before .before .before .before .before .before .before .before .before .before .before .before .before .before .before .enum-told3 .given .1)) (or-arm (c .before .before .before .before .before .before .before .before .before .before .before .before .before .before .before .before .before .before .before .before .before .before .before .before .before .before .before .before .before .before .before .before .before .before .before .before .before .before .args .l) (c .before .before .before .before .before .before .before .before .before .before .before .before .before .before .before .before .before .before .before .before .before .before .before .before .before .before .before .before .before .before .before .before .before .before .before .before .before .before .args .p) (c .before .before .before .before .before .before .before .before .before .before .before .before .before .before .before .before .before .before .before .before .before .before .before .before .before .before .before .before .before .before .before .before .before .before .kid-at .ensures) (c .before .before .before .before .before .before .before .before .before .before .before .before .before .before .before .before .before .before .before .before .before .before .before .before .before .before .before .before .before .before .before .before .before .before .before .before .before .before .args .discard) (c .before .before .before .before .before .before .before .before .before .before .before .before .before .before .before .before .before .before .before .before .before .before .before .before .before .before .before .before .before .before .create-label2 .ensures (now (c .before .before .before .before .before .before .before .before .before .before .before .before .before .before .before .before .before .before .before .before .before .before .before .before .before .before .before .before .before .before .before .before .before .before .before .before .before .before .args .file)) _ ((c .before .before .before .before .before .before .before .before .before .before .before .before .before .before .before .before .before .before .before .before .before .before .before .before .before .before .before .before .before .before .before .before .before .before .before .before .before .before .pre .1) .fine)) (c .before .before .before .before .before .before .before .before .before .before .before .before .before .before .before .before .before .before .before .before .before .before .before .before .before .before .before .gen-expr4 .ensures) (c .before .before .before .before .before .before .before .before .before .before .before .before .before .before .before .before .before .before .before .before .before .action8 .ensures (now (c .before .before .before .before .before .before .before .before .before .before .before .before .before .before .before .before .before .before .before .before .before .before .before .before .before .before .before .before .before .before .before .before .before .before .before .before .before .before .args .file))) (c .before .before .before .before .before .before .before .before .before .before .before .before .before .before .before .before .before .branch2 .ensures (now (c .before .before .before .before .before .before .before .before .before .before .before .before .before .before .before .before .before .before .before .before .before .before .before .before .before .before .before .before .before .before .before .before .before .before .before .before .before .before .args .file))) (c .before .before .before .before .before .before .before .before .before .before .before .before .before .action9 .ensures (now (c .before .before .before .before .before .before .before .before .before .before .before .before .before .before .before .before .before .before .before .before .before .before .before .before .before .before .before .before .before .before .before .before .before .before .before .before .before .before .args .file))) (c .before .before .before .before .before .before .before .before .gen-expr5 .ensures) (c .before .before .mark-label2 .ensures (now (c .before .before .before .before .before .before .before .before .before .before .before .before .before .before .before .before .before .before .before .before .before .before .before .before .before .before .before .before .before .before .before .before .before .before .before .before .before .before .args .file))))
 
 abbrev gen-call-calls : ℕ → gen-call-lts.Claims
-gen-call-calls t = (kid-at-reads.Asked, kid-at-reads.Learnt, list-at-reads.Asked, list-at-reads.Learnt, counts-of-reads.Asked, counts-of-reads.Learnt, args-below t, args.Post, for-expr-below t, for-expr.Post, call-new-reads.Asked, call-new-reads.Learnt, call-reads.Asked, call-reads.Learnt)
+gen-call-calls t = (kid-at-reads.Asked, kid-at-reads.Learnt, list-at-reads.Asked, list-at-reads.Learnt, width-of-reads.Asked, width-of-reads.Learnt, args-below t, args.Post, for-expr-below t, for-expr.Post, call-new-reads.Asked, call-new-reads.Learnt, call-reads.Asked, call-reads.Learnt)
 
 gen-call-kid-at-requires : (t : ℕ) → gen-call-lts.Need-kid-at-requires (gen-call-calls t) (gen-call-at t) gen-call.Post
 gen-call-kid-at-requires t c κs = ((c .before .before .before .pre .1) .within)
@@ -983,17 +984,17 @@ gen-call-kid-at-requires t c κs = ((c .before .before .before .pre .1) .within)
 gen-call-list-at-requires : (t : ℕ) → gen-call-lts.Need-list-at-requires (gen-call-calls t) (gen-call-at t) gen-call.Post
 gen-call-list-at-requires t c κs = ((c .before .before .before .before .pre .1) .within)
 
-gen-call-counts-of-requires : (t : ℕ) → gen-call-lts.Need-counts-of-requires (gen-call-calls t) (gen-call-at t) gen-call.Post
-gen-call-counts-of-requires t c κs = (c .list-at .ensures .within)
+gen-call-width-of-requires : (t : ℕ) → gen-call-lts.Need-width-of-requires (gen-call-calls t) (gen-call-at t) gen-call.Post
+gen-call-width-of-requires t c κs = (c .list-at .ensures .within)
 
 gen-call-args-requires : (t : ℕ) → gen-call-lts.Need-args-requires (gen-call-calls t) (gen-call-at t) gen-call.Post
-gen-call-args-requires t c κs = (omega (arith, c .before .before .before .before .before .before .before .before .pre .0, (c .before .before .before .before .before .before .before .before .pre .1) .fits, c .before .before .before .before .kid-at .ensures .fewer, c .before .before .before .list-at .ensures .fewer), (record { within = (c .before .before .before .list-at .ensures .within); fits = omega (arith, c .before .before .before .before .before .before .before .before .pre .0, (c .before .before .before .before .before .before .before .before .pre .1) .fits, c .before .before .before .before .kid-at .ensures .fewer, c .before .before .before .list-at .ensures .fewer); fine = ((c .before .before .before .before .before .before .before .before .pre .1) .fine); named = ((c .before .before .before .before .before .before .before .before .pre .1) .named) }, (ap (λ (x : Counts). x .trees) (c .before .before .counts-of .ensures))))
+gen-call-args-requires t c κs = (omega (arith, c .before .before .before .before .before .before .before .before .pre .0, (c .before .before .before .before .before .before .before .before .pre .1) .fits, c .before .before .before .before .kid-at .ensures .fewer, c .before .before .before .list-at .ensures .fewer), (record { within = (c .before .before .before .list-at .ensures .within); fits = omega (arith, c .before .before .before .before .before .before .before .before .pre .0, (c .before .before .before .before .before .before .before .before .pre .1) .fits, c .before .before .before .before .kid-at .ensures .fewer, c .before .before .before .list-at .ensures .fewer); fine = ((c .before .before .before .before .before .before .before .before .pre .1) .fine); named = ((c .before .before .before .before .before .before .before .before .pre .1) .named) }, (c .before .before .width-of .ensures)))
 
 gen-call-for-expr-requires : (t : ℕ) → gen-call-lts.Need-for-expr-requires (gen-call-calls t) (gen-call-at t) gen-call.Post
 gen-call-for-expr-requires t c κs = (omega (arith, c .before .before .before .before .before .before .before .before .before .before .before .before .before .before .before .pre .0, (c .before .before .before .before .before .before .before .before .before .before .before .before .before .before .before .pre .1) .fits, c .before .before .before .before .before .before .before .before .before .before .before .kid-at .ensures .fewer, c .before .before .before .before .before .before .before .before .before .before .list-at .ensures .fewer, c .before .before .before .before .before .before .args2 .kept .1 .1 .1 .1 .1 .0), record { within = (c .before .before .before .before .before .before .before .before .before .before .before .kid-at .ensures .within); fits = omega (arith, c .before .before .before .before .before .before .before .before .before .before .before .before .before .before .before .pre .0, (c .before .before .before .before .before .before .before .before .before .before .before .before .before .before .before .pre .1) .fits, c .before .before .before .before .before .before .before .before .before .before .before .kid-at .ensures .fewer, c .before .before .before .before .before .before .before .before .before .before .list-at .ensures .fewer, c .before .before .before .before .before .before .args2 .kept .1 .1 .1 .1 .1 .0); fine = ((c .before .before .before .before .before .before .args2 .ensures) .fine); named = ((c .before .before .before .before .before .before .args2 .ensures) .named ((c .before .before .before .before .before .before .before .before .before .before .before .before .before .before .before .pre .1) .named)) })
 
 gen-call-call-new-requires : (t : ℕ) → gen-call-lts.Need-call-new-requires (gen-call-calls t) (gen-call-at t) gen-call.Post
-gen-call-call-new-requires t c κs = (((c .before .before .before .before .before .before .before .for-expr .ensures) .fine), omega (arith, ap (λ (x : Counts). x .trees) (c .before .before .before .before .before .before .before .before .before .before .before .before .before .before .before .before .before .counts-of .ensures), width-less (now (c .before .before .before .before .before .before .before .before .before .before .before .before .before .before .before .before .before .before .before .before .before .before .before .args .file)) (c .before .before .before .before .before .before .before .before .before .before .before .before .before .before .before .before .before .before .list-at .result), c .before .before .before .before .before .before .before .before .before .before .before .before .before .before .before .before .before .before .list-at .ensures .fewer, ((c .before .before .before .before .before .before .before .before .before .before .before .before .before .before .before .before .before .before .before .before .before .before .before .pre .1) .within) .known, ((c .before .before .before .before .before .before .before .before .before .before .before .before .before .before .before .before .before .before .before .before .before .before .before .pre .1) .within) .sound .few, ((c .before .before .before .before .before .before .before .before .before .before .before .before .before .before .before .before .before .before .before .before .before .before .before .pre .1) .within) .inside))
+gen-call-call-new-requires t c κs = (((c .before .before .before .before .before .before .before .for-expr .ensures) .fine), omega (arith, c .before .before .before .before .before .before .before .before .before .before .before .before .before .before .before .before .before .width-of .ensures, width-less (now (c .before .before .before .before .before .before .before .before .before .before .before .before .before .before .before .before .before .before .before .before .before .before .before .args .file)) (c .before .before .before .before .before .before .before .before .before .before .before .before .before .before .before .before .before .before .list-at .result), c .before .before .before .before .before .before .before .before .before .before .before .before .before .before .before .before .before .before .list-at .ensures .fewer, ((c .before .before .before .before .before .before .before .before .before .before .before .before .before .before .before .before .before .before .before .before .before .before .before .pre .1) .within) .known, ((c .before .before .before .before .before .before .before .before .before .before .before .before .before .before .before .before .before .before .before .before .before .before .before .pre .1) .within) .sound .few, ((c .before .before .before .before .before .before .before .before .before .before .before .before .before .before .before .before .before .before .before .before .before .before .before .pre .1) .within) .inside))
 
 gen-call-same-length : (t : ℕ) → gen-call-lts.Need-same-length (gen-call-calls t) (gen-call-at t) gen-call.Post
 gen-call-same-length t c = c .before .before .call-new .kept .0 ∙ c .before .before .before .before .before .before .before .before .before .before .for-expr .kept .1 .1 .1 .1 .0 ∙ c .before .before .before .before .before .before .before .before .before .before .before .before .before .before .before .before .before .args2 .kept .1 .1 .1 .1 .0
@@ -1002,10 +1003,10 @@ gen-call-same-length-2 : (t : ℕ) → gen-call-lts.Need-same-length-2 (gen-call
 gen-call-same-length-2 t c = c .before .before .before .before .before .before .before .before .before .before .for-expr .kept .1 .1 .1 .1 .1 .0 ∙ c .before .before .before .before .before .before .before .before .before .before .before .before .before .before .before .before .before .args2 .kept .1 .1 .1 .1 .1 .0
 
 gen-call-returns : (t : ℕ) → gen-call-lts.Need-returns (gen-call-calls t) (gen-call-at t) gen-call.Post
-gen-call-returns t c = rw (c .before .before .before .before .if1 .taken) (new-arm (c .before .before .before .before .before .before .before .before .before .before .before .before .before .before .before .before .before .before .before .before .before .before .before .before .before .before .args .l) (c .before .before .before .before .before .before .before .before .before .before .before .before .before .before .before .before .before .before .before .before .before .before .before .before .before .before .args .p) (c .before .before .before .before .before .before .before .before .before .before .before .before .before .before .before .before .before .before .before .before .before .before .kid-at .ensures) (c .before .before .before .before .before .before .before .before .before .before .before .before .before .before .before .before .before .before .before .before .before .list-at .ensures) (c .before .before .before .before .before .before .before .before .before .before .before .before .before .before .before .before .before .before .before .before .counts-of .result .trees) (ap (λ (x : Counts). x .trees) (c .before .before .before .before .before .before .before .before .before .before .before .before .before .before .before .before .before .before .before .before .counts-of .ensures)) (c .before .before .before .before .before .before .before .before .before .before .before .before .before .before .before .before .before .args2 .ensures) (c .before .before .before .before .before .before .before .before .before .before .for-expr .ensures) (c .before .before .call-new .ensures (now (c .before .before .before .before .before .before .before .before .before .before .before .before .before .before .before .before .before .before .before .before .before .before .before .before .before .before .args .file))))
+gen-call-returns t c = rw (c .before .before .before .before .if1 .taken) (new-arm (c .before .before .before .before .before .before .before .before .before .before .before .before .before .before .before .before .before .before .before .before .before .before .before .before .before .before .args .l) (c .before .before .before .before .before .before .before .before .before .before .before .before .before .before .before .before .before .before .before .before .before .before .before .before .before .before .args .p) (c .before .before .before .before .before .before .before .before .before .before .before .before .before .before .before .before .before .before .before .before .before .before .kid-at .ensures) (c .before .before .before .before .before .before .before .before .before .before .before .before .before .before .before .before .before .before .before .before .before .list-at .ensures) (c .before .before .before .before .before .before .before .before .before .before .before .before .before .before .before .before .before .before .before .before .width-of .result) (c .before .before .before .before .before .before .before .before .before .before .before .before .before .before .before .before .before .before .before .before .width-of .ensures) (c .before .before .before .before .before .before .before .before .before .before .before .before .before .before .before .before .before .args2 .ensures) (c .before .before .before .before .before .before .before .before .before .before .for-expr .ensures) (c .before .before .call-new .ensures (now (c .before .before .before .before .before .before .before .before .before .before .before .before .before .before .before .before .before .before .before .before .before .before .before .before .before .before .args .file))))
 
 gen-call-call-requires : (t : ℕ) → gen-call-lts.Need-call-requires (gen-call-calls t) (gen-call-at t) gen-call.Post
-gen-call-call-requires t c κs = (((c .before .before .before .before .before .before .before .for-expr .ensures) .fine), omega (arith, ap (λ (x : Counts). x .trees) (c .before .before .before .before .before .before .before .before .before .before .before .before .before .before .before .before .before .counts-of .ensures), width-less (now (c .before .before .before .before .before .before .before .before .before .before .before .before .before .before .before .before .before .before .before .before .before .before .before .args .file)) (c .before .before .before .before .before .before .before .before .before .before .before .before .before .before .before .before .before .before .list-at .result), c .before .before .before .before .before .before .before .before .before .before .before .before .before .before .before .before .before .before .list-at .ensures .fewer, ((c .before .before .before .before .before .before .before .before .before .before .before .before .before .before .before .before .before .before .before .before .before .before .before .pre .1) .within) .known, ((c .before .before .before .before .before .before .before .before .before .before .before .before .before .before .before .before .before .before .before .before .before .before .before .pre .1) .within) .sound .few, ((c .before .before .before .before .before .before .before .before .before .before .before .before .before .before .before .before .before .before .before .before .before .before .before .pre .1) .within) .inside))
+gen-call-call-requires t c κs = (((c .before .before .before .before .before .before .before .for-expr .ensures) .fine), omega (arith, c .before .before .before .before .before .before .before .before .before .before .before .before .before .before .before .before .before .width-of .ensures, width-less (now (c .before .before .before .before .before .before .before .before .before .before .before .before .before .before .before .before .before .before .before .before .before .before .before .args .file)) (c .before .before .before .before .before .before .before .before .before .before .before .before .before .before .before .before .before .before .list-at .result), c .before .before .before .before .before .before .before .before .before .before .before .before .before .before .before .before .before .before .list-at .ensures .fewer, ((c .before .before .before .before .before .before .before .before .before .before .before .before .before .before .before .before .before .before .before .before .before .before .before .pre .1) .within) .known, ((c .before .before .before .before .before .before .before .before .before .before .before .before .before .before .before .before .before .before .before .before .before .before .before .pre .1) .within) .sound .few, ((c .before .before .before .before .before .before .before .before .before .before .before .before .before .before .before .before .before .before .before .before .before .before .before .pre .1) .within) .inside))
 
 gen-call-same-length-3 : (t : ℕ) → gen-call-lts.Need-same-length-3 (gen-call-calls t) (gen-call-at t) gen-call.Post
 gen-call-same-length-3 t c = c .before .before .call .kept .0 ∙ c .before .before .before .before .before .before .before .before .before .before .for-expr .kept .1 .1 .1 .1 .0 ∙ c .before .before .before .before .before .before .before .before .before .before .before .before .before .before .before .before .before .args2 .kept .1 .1 .1 .1 .0
@@ -1014,10 +1015,10 @@ gen-call-same-length-4 : (t : ℕ) → gen-call-lts.Need-same-length-4 (gen-call
 gen-call-same-length-4 t c = c .before .before .before .before .before .before .before .before .before .before .for-expr .kept .1 .1 .1 .1 .1 .0 ∙ c .before .before .before .before .before .before .before .before .before .before .before .before .before .before .before .before .before .args2 .kept .1 .1 .1 .1 .1 .0
 
 gen-call-returns-2 : (t : ℕ) → gen-call-lts.Need-returns-2 (gen-call-calls t) (gen-call-at t) gen-call.Post
-gen-call-returns-2 t c = rw (c .before .before .before .before .if1 .left) (call-arm (c .before .before .before .before .before .before .before .before .before .before .before .before .before .before .before .before .before .before .before .before .before .before .before .before .before .before .args .l) (c .before .before .before .before .before .before .before .before .before .before .before .before .before .before .before .before .before .before .before .before .before .before .before .before .before .before .args .p) (c .before .before .before .before .before .before .before .before .before .before .before .before .before .before .before .before .before .before .before .before .before .before .kid-at .ensures) (c .before .before .before .before .before .before .before .before .before .before .before .before .before .before .before .before .before .before .before .before .before .list-at .ensures) (c .before .before .before .before .before .before .before .before .before .before .before .before .before .before .before .before .before .before .before .before .counts-of .result .trees) (ap (λ (x : Counts). x .trees) (c .before .before .before .before .before .before .before .before .before .before .before .before .before .before .before .before .before .before .before .before .counts-of .ensures)) (c .before .before .before .before .before .before .before .before .before .before .before .before .before .before .before .before .before .args2 .ensures) (c .before .before .before .before .before .before .before .before .before .before .for-expr .ensures) (c .before .before .call .ensures (now (c .before .before .before .before .before .before .before .before .before .before .before .before .before .before .before .before .before .before .before .before .before .before .before .before .before .before .args .file))))
+gen-call-returns-2 t c = rw (c .before .before .before .before .if1 .left) (call-arm (c .before .before .before .before .before .before .before .before .before .before .before .before .before .before .before .before .before .before .before .before .before .before .before .before .before .before .args .l) (c .before .before .before .before .before .before .before .before .before .before .before .before .before .before .before .before .before .before .before .before .before .before .before .before .before .before .args .p) (c .before .before .before .before .before .before .before .before .before .before .before .before .before .before .before .before .before .before .before .before .before .before .kid-at .ensures) (c .before .before .before .before .before .before .before .before .before .before .before .before .before .before .before .before .before .before .before .before .before .list-at .ensures) (c .before .before .before .before .before .before .before .before .before .before .before .before .before .before .before .before .before .before .before .before .width-of .result) (c .before .before .before .before .before .before .before .before .before .before .before .before .before .before .before .before .before .before .before .before .width-of .ensures) (c .before .before .before .before .before .before .before .before .before .before .before .before .before .before .before .before .before .args2 .ensures) (c .before .before .before .before .before .before .before .before .before .before .for-expr .ensures) (c .before .before .call .ensures (now (c .before .before .before .before .before .before .before .before .before .before .before .before .before .before .before .before .before .before .before .before .before .before .before .before .before .before .args .file))))
 
 abbrev gen-expr-calls : ℕ → gen-expr-lts.Claims
-gen-expr-calls t = (node-at-reads.Asked, node-at-reads.Learnt, read-constant-reads.Asked, read-constant-reads.Learnt, action-of-reads.Asked, action-of-reads.Learnt, no-loop-reads.Asked, no-loop-reads.Learnt, each-below t, each.Post, action-reads.Asked, action-reads.Learnt, gen-binary-op-below t, gen-binary-op.Post, gen-unary-op-below t, gen-unary-op.Post, gen-call-below t, gen-call.Post, kid-at-reads.Asked, kid-at-reads.Learnt, gen-expr-below t, gen-expr.Post, push-reads.Asked, push-reads.Learnt, gen-ternary-below t, gen-ternary.Post, list-at-reads.Asked, list-at-reads.Learnt, counts-of-reads.Asked, counts-of-reads.Learnt, push-count-reads.Asked, push-count-reads.Learnt, action-down-reads.Asked, action-down-reads.Learnt, args-below t, args.Post, for-expr-below t, for-expr.Post, delete-reads.Asked, delete-reads.Learnt, leaves-value-reads.Asked, leaves-value-reads.Learnt, gen-function-below t, gen-function.Post, goto-below t, goto.Post, drag-below t, drag.Post)
+gen-expr-calls t = (node-at-reads.Asked, node-at-reads.Learnt, read-constant-reads.Asked, read-constant-reads.Learnt, action-of-reads.Asked, action-of-reads.Learnt, no-loop-reads.Asked, no-loop-reads.Learnt, each-below t, each.Post, action-reads.Asked, action-reads.Learnt, gen-binary-op-below t, gen-binary-op.Post, gen-unary-op-below t, gen-unary-op.Post, gen-call-below t, gen-call.Post, kid-at-reads.Asked, kid-at-reads.Learnt, gen-expr-below t, gen-expr.Post, push-reads.Asked, push-reads.Learnt, gen-ternary-below t, gen-ternary.Post, list-at-reads.Asked, list-at-reads.Learnt, width-of-reads.Asked, width-of-reads.Learnt, push-count-reads.Asked, push-count-reads.Learnt, action-down-reads.Asked, action-down-reads.Learnt, args-below t, args.Post, for-expr-below t, for-expr.Post, delete-reads.Asked, delete-reads.Learnt, leaves-value-reads.Asked, leaves-value-reads.Learnt, gen-function-below t, gen-function.Post, goto-below t, goto.Post, drag-below t, drag.Post)
 
 gen-expr-returns : (t : ℕ) → gen-expr-lts.Need-returns (gen-expr-calls t) (gen-expr-at t) gen-expr.Post
 gen-expr-returns t c = stays (c .if1 .taken) ((c .before .before .before .before .before .pre .1) .fine)
@@ -1112,8 +1113,8 @@ gen-expr-enum-told-5 t c = search needs
 gen-expr-list-at-requires : (t : ℕ) → gen-expr-lts.Need-list-at-requires (gen-expr-calls t) (gen-expr-at t) gen-expr.Post
 gen-expr-list-at-requires t c κs = ((is-node (now (c .before .before .before .before .before .before .before .before .before .before .before .before .args .file)) (c .before .before .before .before .before .before .before .before .before .before .before .before .args .l) (c .before .before .before .before .before .before .before .before .before .before .before .before .args .p) ((c .before .before .before .before .before .before .before .before .before .before .before .before .pre .1) .within) (c .before .before .before .before .before .before .node-at .ensures)) .kids-within)
 
-gen-expr-counts-of-requires : (t : ℕ) → gen-expr-lts.Need-counts-of-requires (gen-expr-calls t) (gen-expr-at t) gen-expr.Post
-gen-expr-counts-of-requires t c κs = (c .list-at .ensures .within)
+gen-expr-width-of-requires : (t : ℕ) → gen-expr-lts.Need-width-of-requires (gen-expr-calls t) (gen-expr-at t) gen-expr.Post
+gen-expr-width-of-requires t c κs = (c .list-at .ensures .within)
 
 gen-expr-no-loop-requires-2 : (t : ℕ) → gen-expr-lts.Need-no-loop-requires-2 (gen-expr-calls t) (gen-expr-at t) gen-expr.Post
 gen-expr-no-loop-requires-2 t c κs = tt
@@ -1122,13 +1123,13 @@ gen-expr-each-requires-2 : (t : ℕ) → gen-expr-lts.Need-each-requires-2 (gen-
 gen-expr-each-requires-2 t c κs = (omega (arith, c .before .before .before .before .before .before .before .before .before .before .before .before .before .before .before .before .before .pre .0, (c .before .before .before .before .before .before .before .before .before .before .before .before .before .before .before .before .before .pre .1) .fits, (is-node (now (c .before .before .before .before .before .before .before .before .before .before .before .before .before .before .before .before .before .args .file)) (c .before .before .before .before .before .before .before .before .before .before .before .before .before .before .before .before .before .args .l) (c .before .before .before .before .before .before .before .before .before .before .before .before .before .before .before .before .before .args .p) ((c .before .before .before .before .before .before .before .before .before .before .before .before .before .before .before .before .before .pre .1) .within) (c .before .before .before .before .before .before .before .before .before .before .before .node-at .ensures)) .apart, (is-node (now (c .before .before .before .before .before .before .before .before .before .before .before .before .before .before .before .before .before .args .file)) (c .before .before .before .before .before .before .before .before .before .before .before .before .before .before .before .before .before .args .l) (c .before .before .before .before .before .before .before .before .before .before .before .before .before .before .before .before .before .args .p) ((c .before .before .before .before .before .before .before .before .before .before .before .before .before .before .before .before .before .pre .1) .within) (c .before .before .before .before .before .before .before .before .before .before .before .node-at .ensures)) .real, ap live (c .before .before .before .before .before .before .before .before .root .given .1), c .before .before .before .before .list-at .ensures .fewer), (record { within = (c .before .before .before .before .list-at .ensures .within); fits = omega (arith, c .before .before .before .before .before .before .before .before .before .before .before .before .before .before .before .before .before .pre .0, (c .before .before .before .before .before .before .before .before .before .before .before .before .before .before .before .before .before .pre .1) .fits, (is-node (now (c .before .before .before .before .before .before .before .before .before .before .before .before .before .before .before .before .before .args .file)) (c .before .before .before .before .before .before .before .before .before .before .before .before .before .before .before .before .before .args .l) (c .before .before .before .before .before .before .before .before .before .before .before .before .before .before .before .before .before .args .p) ((c .before .before .before .before .before .before .before .before .before .before .before .before .before .before .before .before .before .pre .1) .within) (c .before .before .before .before .before .before .before .before .before .before .before .node-at .ensures)) .apart, (is-node (now (c .before .before .before .before .before .before .before .before .before .before .before .before .before .before .before .before .before .args .file)) (c .before .before .before .before .before .before .before .before .before .before .before .before .before .before .before .before .before .args .l) (c .before .before .before .before .before .before .before .before .before .before .before .before .before .before .before .before .before .args .p) ((c .before .before .before .before .before .before .before .before .before .before .before .before .before .before .before .before .before .pre .1) .within) (c .before .before .before .before .before .before .before .before .before .before .before .node-at .ensures)) .real, ap live (c .before .before .before .before .before .before .before .before .root .given .1), c .before .before .before .before .list-at .ensures .fewer); fine = ((c .before .before .before .before .before .before .before .before .before .before .before .before .before .before .before .before .before .pre .1) .fine); named = ((c .before .before .before .before .before .before .before .before .before .before .before .before .before .before .before .before .before .pre .1) .named) }, omega (arith, c .before .before .before .before .before .before .before .before .before .before .before .before .before .before .before .before .before .pre .0, (c .before .before .before .before .before .before .before .before .before .before .before .before .before .before .before .before .before .pre .1) .fits, (is-node (now (c .before .before .before .before .before .before .before .before .before .before .before .before .before .before .before .before .before .args .file)) (c .before .before .before .before .before .before .before .before .before .before .before .before .before .before .before .before .before .args .l) (c .before .before .before .before .before .before .before .before .before .before .before .before .before .before .before .before .before .args .p) ((c .before .before .before .before .before .before .before .before .before .before .before .before .before .before .before .before .before .pre .1) .within) (c .before .before .before .before .before .before .before .before .before .before .before .node-at .ensures)) .apart, (is-node (now (c .before .before .before .before .before .before .before .before .before .before .before .before .before .before .before .before .before .args .file)) (c .before .before .before .before .before .before .before .before .before .before .before .before .before .before .before .before .before .args .l) (c .before .before .before .before .before .before .before .before .before .before .before .before .before .before .before .before .before .args .p) ((c .before .before .before .before .before .before .before .before .before .before .before .before .before .before .before .before .before .pre .1) .within) (c .before .before .before .before .before .before .before .before .before .before .before .node-at .ensures)) .real, ap live (c .before .before .before .before .before .before .before .before .root .given .1), c .before .before .before .before .list-at .ensures .fewer, (c .before .before .before .before .before .before .before .before .before .before .before .before .before .before .before .before .before .pre .1) .within .known, (c .before .before .before .before .before .before .before .before .before .before .before .before .before .before .before .before .before .pre .1) .within .sound .few, (c .before .before .before .before .before .before .before .before .before .before .before .before .before .before .before .before .before .pre .1) .within .inside)))
 
 gen-expr-push-count-requires : (t : ℕ) → gen-expr-lts.Need-push-count-requires (gen-expr-calls t) (gen-expr-at t) gen-expr.Post
-gen-expr-push-count-requires t c κs = (((c .before .before .before .before .before .each2 .ensures) .fine), omega (arith, (ap (λ (x : Counts). x .trees) (c .before .before .before .before .before .before .before .before .before .counts-of .ensures)), width-less (now (c .before .before .before .before .before .before .before .before .before .before .before .before .before .before .before .before .before .before .before .before .before .before .before .args .file)) (c .before .before .before .before .before .before .before .before .before .before .list-at .result), c .before .before .before .before .before .before .before .before .before .before .list-at .ensures .fewer, (is-node (now (c .before .before .before .before .before .before .before .before .before .before .before .before .before .before .before .before .before .before .before .before .before .before .before .args .file)) (c .before .before .before .before .before .before .before .before .before .before .before .before .before .before .before .before .before .before .before .before .before .before .before .args .l) (c .before .before .before .before .before .before .before .before .before .before .before .before .before .before .before .before .before .before .before .before .before .before .before .args .p) ((c .before .before .before .before .before .before .before .before .before .before .before .before .before .before .before .before .before .before .before .before .before .before .before .pre .1) .within) (c .before .before .before .before .before .before .before .before .before .before .before .before .before .before .before .before .before .node-at .ensures)) .apart, (c .before .before .before .before .before .before .before .before .before .before .before .before .before .before .before .before .before .before .before .before .before .before .before .pre .1) .within .known, (c .before .before .before .before .before .before .before .before .before .before .before .before .before .before .before .before .before .before .before .before .before .before .before .pre .1) .within .sound .few, (c .before .before .before .before .before .before .before .before .before .before .before .before .before .before .before .before .before .before .before .before .before .before .before .pre .1) .within .inside))
+gen-expr-push-count-requires t c κs = (((c .before .before .before .before .before .each2 .ensures) .fine), omega (arith, (c .before .before .before .before .before .before .before .before .before .width-of .ensures), width-less (now (c .before .before .before .before .before .before .before .before .before .before .before .before .before .before .before .before .before .before .before .before .before .before .before .args .file)) (c .before .before .before .before .before .before .before .before .before .before .list-at .result), c .before .before .before .before .before .before .before .before .before .before .list-at .ensures .fewer, (is-node (now (c .before .before .before .before .before .before .before .before .before .before .before .before .before .before .before .before .before .before .before .before .before .before .before .args .file)) (c .before .before .before .before .before .before .before .before .before .before .before .before .before .before .before .before .before .before .before .before .before .before .before .args .l) (c .before .before .before .before .before .before .before .before .before .before .before .before .before .before .before .before .before .before .before .before .before .before .before .args .p) ((c .before .before .before .before .before .before .before .before .before .before .before .before .before .before .before .before .before .before .before .before .before .before .before .pre .1) .within) (c .before .before .before .before .before .before .before .before .before .before .before .before .before .before .before .before .before .node-at .ensures)) .apart, (c .before .before .before .before .before .before .before .before .before .before .before .before .before .before .before .before .before .before .before .before .before .before .before .pre .1) .within .known, (c .before .before .before .before .before .before .before .before .before .before .before .before .before .before .before .before .before .before .before .before .before .before .before .pre .1) .within .sound .few, (c .before .before .before .before .before .before .before .before .before .before .before .before .before .before .before .before .before .before .before .before .before .before .before .pre .1) .within .inside))
 
 gen-expr-add-action-down : (t : ℕ) → gen-expr-lts.Need-add-action-down (gen-expr-calls t) (gen-expr-at t) gen-expr.Post
-gen-expr-add-action-down t c = omega (arith, (ap (λ (x : Counts). x .trees) (c .before .before .before .before .before .before .before .before .before .before .before .before .before .before .counts-of .ensures)), width-less (now (c .before .before .before .before .before .before .before .before .before .before .before .before .before .before .before .before .before .before .before .before .before .before .before .before .before .before .before .before .args .file)) (c .before .before .before .before .before .before .before .before .before .before .before .before .before .before .before .list-at .result), c .before .before .before .before .before .before .before .before .before .before .before .before .before .before .before .list-at .ensures .fewer, (is-node (now (c .before .before .before .before .before .before .before .before .before .before .before .before .before .before .before .before .before .before .before .before .before .before .before .before .before .before .before .before .args .file)) (c .before .before .before .before .before .before .before .before .before .before .before .before .before .before .before .before .before .before .before .before .before .before .before .before .before .before .before .before .args .l) (c .before .before .before .before .before .before .before .before .before .before .before .before .before .before .before .before .before .before .before .before .before .before .before .before .before .before .before .before .args .p) ((c .before .before .before .before .before .before .before .before .before .before .before .before .before .before .before .before .before .before .before .before .before .before .before .before .before .before .before .before .pre .1) .within) (c .before .before .before .before .before .before .before .before .before .before .before .before .before .before .before .before .before .before .before .before .before .before .node-at .ensures)) .apart, (c .before .before .before .before .before .before .before .before .before .before .before .before .before .before .before .before .before .before .before .before .before .before .before .before .before .before .before .before .pre .1) .within .known, (c .before .before .before .before .before .before .before .before .before .before .before .before .before .before .before .before .before .before .before .before .before .before .before .before .before .before .before .before .pre .1) .within .sound .few, (c .before .before .before .before .before .before .before .before .before .before .before .before .before .before .before .before .before .before .before .before .before .before .before .before .before .before .before .before .pre .1) .within .inside)
+gen-expr-add-action-down t c = omega (arith, (c .before .before .before .before .before .before .before .before .before .before .before .before .before .width-of .ensures), width-less (now (c .before .before .before .before .before .before .before .before .before .before .before .before .before .before .before .before .before .before .before .before .before .before .before .before .before .before .before .args .file)) (c .before .before .before .before .before .before .before .before .before .before .before .before .before .before .list-at .result), c .before .before .before .before .before .before .before .before .before .before .before .before .before .before .list-at .ensures .fewer, (is-node (now (c .before .before .before .before .before .before .before .before .before .before .before .before .before .before .before .before .before .before .before .before .before .before .before .before .before .before .before .args .file)) (c .before .before .before .before .before .before .before .before .before .before .before .before .before .before .before .before .before .before .before .before .before .before .before .before .before .before .before .args .l) (c .before .before .before .before .before .before .before .before .before .before .before .before .before .before .before .before .before .before .before .before .before .before .before .before .before .before .before .args .p) ((c .before .before .before .before .before .before .before .before .before .before .before .before .before .before .before .before .before .before .before .before .before .before .before .before .before .before .before .pre .1) .within) (c .before .before .before .before .before .before .before .before .before .before .before .before .before .before .before .before .before .before .before .before .before .node-at .ensures)) .apart, (c .before .before .before .before .before .before .before .before .before .before .before .before .before .before .before .before .before .before .before .before .before .before .before .before .before .before .before .pre .1) .within .known, (c .before .before .before .before .before .before .before .before .before .before .before .before .before .before .before .before .before .before .before .before .before .before .before .before .before .before .before .pre .1) .within .sound .few, (c .before .before .before .before .before .before .before .before .before .before .before .before .before .before .before .before .before .before .before .before .before .before .before .before .before .before .before .pre .1) .within .inside)
 
 gen-expr-action-down-requires : (t : ℕ) → gen-expr-lts.Need-action-down-requires (gen-expr-calls t) (gen-expr-at t) gen-expr.Post
-gen-expr-action-down-requires t c κs = ((c .before .before .before .before .push-count .ensures (now (c .before .before .before .before .before .before .before .before .before .before .before .before .before .before .before .before .before .before .before .before .before .before .before .before .before .before .before .before .args .file))) .fine)
+gen-expr-action-down-requires t c κs = ((c .before .before .before .push-count .ensures (now (c .before .before .before .before .before .before .before .before .before .before .before .before .before .before .before .before .before .before .before .before .before .before .before .before .before .before .before .args .file))) .fine)
 
 gen-expr-enum-told-6 : (t : ℕ) → gen-expr-lts.Need-enum-told-6 (gen-expr-calls t) (gen-expr-at t) gen-expr.Post
 gen-expr-enum-told-6 t c = search needs
@@ -1136,11 +1137,11 @@ gen-expr-enum-told-6 t c = search needs
 gen-expr-list-at-requires-2 : (t : ℕ) → gen-expr-lts.Need-list-at-requires-2 (gen-expr-calls t) (gen-expr-at t) gen-expr.Post
 gen-expr-list-at-requires-2 t c κs = ((is-node (now (c .before .before .before .before .before .before .before .before .before .before .before .before .args .file)) (c .before .before .before .before .before .before .before .before .before .before .before .before .args .l) (c .before .before .before .before .before .before .before .before .before .before .before .before .args .p) ((c .before .before .before .before .before .before .before .before .before .before .before .before .pre .1) .within) (c .before .before .before .before .before .before .node-at .ensures)) .kids-within)
 
-gen-expr-counts-of-requires-2 : (t : ℕ) → gen-expr-lts.Need-counts-of-requires-2 (gen-expr-calls t) (gen-expr-at t) gen-expr.Post
-gen-expr-counts-of-requires-2 t c κs = (c .list-at2 .ensures .within)
+gen-expr-width-of-requires-2 : (t : ℕ) → gen-expr-lts.Need-width-of-requires-2 (gen-expr-calls t) (gen-expr-at t) gen-expr.Post
+gen-expr-width-of-requires-2 t c κs = (c .list-at2 .ensures .within)
 
 gen-expr-args-requires : (t : ℕ) → gen-expr-lts.Need-args-requires (gen-expr-calls t) (gen-expr-at t) gen-expr.Post
-gen-expr-args-requires t c κs = (omega (arith, c .before .before .before .before .before .before .before .before .before .before .before .before .before .before .before .before .pre .0, (c .before .before .before .before .before .before .before .before .before .before .before .before .before .before .before .before .pre .1) .fits, (is-node (now (c .before .before .before .before .before .before .before .before .before .before .before .before .before .before .before .before .args .file)) (c .before .before .before .before .before .before .before .before .before .before .before .before .before .before .before .before .args .l) (c .before .before .before .before .before .before .before .before .before .before .before .before .before .before .before .before .args .p) ((c .before .before .before .before .before .before .before .before .before .before .before .before .before .before .before .before .pre .1) .within) (c .before .before .before .before .before .before .before .before .before .before .node-at .ensures)) .apart, (is-node (now (c .before .before .before .before .before .before .before .before .before .before .before .before .before .before .before .before .args .file)) (c .before .before .before .before .before .before .before .before .before .before .before .before .before .before .before .before .args .l) (c .before .before .before .before .before .before .before .before .before .before .before .before .before .before .before .before .args .p) ((c .before .before .before .before .before .before .before .before .before .before .before .before .before .before .before .before .pre .1) .within) (c .before .before .before .before .before .before .before .before .before .before .node-at .ensures)) .real, ap live (c .before .before .before .before .before .before .before .root .given .1), c .before .before .before .list-at2 .ensures .fewer), (record { within = (c .before .before .before .list-at2 .ensures .within); fits = omega (arith, c .before .before .before .before .before .before .before .before .before .before .before .before .before .before .before .before .pre .0, (c .before .before .before .before .before .before .before .before .before .before .before .before .before .before .before .before .pre .1) .fits, (is-node (now (c .before .before .before .before .before .before .before .before .before .before .before .before .before .before .before .before .args .file)) (c .before .before .before .before .before .before .before .before .before .before .before .before .before .before .before .before .args .l) (c .before .before .before .before .before .before .before .before .before .before .before .before .before .before .before .before .args .p) ((c .before .before .before .before .before .before .before .before .before .before .before .before .before .before .before .before .pre .1) .within) (c .before .before .before .before .before .before .before .before .before .before .node-at .ensures)) .apart, (is-node (now (c .before .before .before .before .before .before .before .before .before .before .before .before .before .before .before .before .args .file)) (c .before .before .before .before .before .before .before .before .before .before .before .before .before .before .before .before .args .l) (c .before .before .before .before .before .before .before .before .before .before .before .before .before .before .before .before .args .p) ((c .before .before .before .before .before .before .before .before .before .before .before .before .before .before .before .before .pre .1) .within) (c .before .before .before .before .before .before .before .before .before .before .node-at .ensures)) .real, ap live (c .before .before .before .before .before .before .before .root .given .1), c .before .before .before .list-at2 .ensures .fewer); fine = ((c .before .before .before .before .before .before .before .before .before .before .before .before .before .before .before .before .pre .1) .fine); named = ((c .before .before .before .before .before .before .before .before .before .before .before .before .before .before .before .before .pre .1) .named) }, (ap (λ (x : Counts). x .trees) (c .before .before .counts-of2 .ensures))))
+gen-expr-args-requires t c κs = (omega (arith, c .before .before .before .before .before .before .before .before .before .before .before .before .before .before .before .before .pre .0, (c .before .before .before .before .before .before .before .before .before .before .before .before .before .before .before .before .pre .1) .fits, (is-node (now (c .before .before .before .before .before .before .before .before .before .before .before .before .before .before .before .before .args .file)) (c .before .before .before .before .before .before .before .before .before .before .before .before .before .before .before .before .args .l) (c .before .before .before .before .before .before .before .before .before .before .before .before .before .before .before .before .args .p) ((c .before .before .before .before .before .before .before .before .before .before .before .before .before .before .before .before .pre .1) .within) (c .before .before .before .before .before .before .before .before .before .before .node-at .ensures)) .apart, (is-node (now (c .before .before .before .before .before .before .before .before .before .before .before .before .before .before .before .before .args .file)) (c .before .before .before .before .before .before .before .before .before .before .before .before .before .before .before .before .args .l) (c .before .before .before .before .before .before .before .before .before .before .before .before .before .before .before .before .args .p) ((c .before .before .before .before .before .before .before .before .before .before .before .before .before .before .before .before .pre .1) .within) (c .before .before .before .before .before .before .before .before .before .before .node-at .ensures)) .real, ap live (c .before .before .before .before .before .before .before .root .given .1), c .before .before .before .list-at2 .ensures .fewer), (record { within = (c .before .before .before .list-at2 .ensures .within); fits = omega (arith, c .before .before .before .before .before .before .before .before .before .before .before .before .before .before .before .before .pre .0, (c .before .before .before .before .before .before .before .before .before .before .before .before .before .before .before .before .pre .1) .fits, (is-node (now (c .before .before .before .before .before .before .before .before .before .before .before .before .before .before .before .before .args .file)) (c .before .before .before .before .before .before .before .before .before .before .before .before .before .before .before .before .args .l) (c .before .before .before .before .before .before .before .before .before .before .before .before .before .before .before .before .args .p) ((c .before .before .before .before .before .before .before .before .before .before .before .before .before .before .before .before .pre .1) .within) (c .before .before .before .before .before .before .before .before .before .before .node-at .ensures)) .apart, (is-node (now (c .before .before .before .before .before .before .before .before .before .before .before .before .before .before .before .before .args .file)) (c .before .before .before .before .before .before .before .before .before .before .before .before .before .before .before .before .args .l) (c .before .before .before .before .before .before .before .before .before .before .before .before .before .before .before .before .args .p) ((c .before .before .before .before .before .before .before .before .before .before .before .before .before .before .before .before .pre .1) .within) (c .before .before .before .before .before .before .before .before .before .before .node-at .ensures)) .real, ap live (c .before .before .before .before .before .before .before .root .given .1), c .before .before .before .list-at2 .ensures .fewer); fine = ((c .before .before .before .before .before .before .before .before .before .before .before .before .before .before .before .before .pre .1) .fine); named = ((c .before .before .before .before .before .before .before .before .before .before .before .before .before .before .before .before .pre .1) .named) }, (c .before .before .width-of2 .ensures)))
 
 gen-expr-action-down-requires-2 : (t : ℕ) → gen-expr-lts.Need-action-down-requires-2 (gen-expr-calls t) (gen-expr-at t) gen-expr.Post
 gen-expr-action-down-requires-2 t c κs = ((c .before .before .before .before .before .args2 .ensures) .fine)
@@ -1320,13 +1321,13 @@ gen-expr-returns-9 : (t : ℕ) → gen-expr-lts.Need-returns-9 (gen-expr-calls t
 gen-expr-returns-9 t c = rw (expr-at (is-node (now (c .before .before .before .before .before .before .before .before .before .before .before .before .before .before .before .before .before .before .before .args .file)) (c .before .before .before .before .before .before .before .before .before .before .before .before .before .before .before .before .before .before .before .args .l) (c .before .before .before .before .before .before .before .before .before .before .before .before .before .before .before .before .before .before .before .args .p) ((c .before .before .before .before .before .before .before .before .before .before .before .before .before .before .before .before .before .before .before .pre .1) .within) (c .before .before .before .before .before .before .before .before .before .before .before .before .before .node-at .ensures)) (c .before .before .before .before .before .before .before .before .before .before .before .before .before .before .before .before .before .before .before .args .discard) (c .before .before .before .before .before .before .before .before .before .before .root .given .1), (c .before .before .before .before .before .before .before .enum-told4 .given .1)) (c .before .before .before .before .gen-ternary .ensures)
 
 gen-expr-same-length-16 : (t : ℕ) → gen-expr-lts.Need-same-length-16 (gen-expr-calls t) (gen-expr-at t) gen-expr.Post
-gen-expr-same-length-16 t c = c .before .before .action-down .kept .0 ∙ c .before .before .before .before .before .before .before .push-count .kept .0 ∙ c .before .before .before .before .before .before .before .before .before .before .before .before .before .each2 .kept .1 .1 .1 .1 .0
+gen-expr-same-length-16 t c = c .before .before .action-down .kept .0 ∙ c .before .before .before .before .before .before .push-count .kept .0 ∙ c .before .before .before .before .before .before .before .before .before .before .before .before .each2 .kept .1 .1 .1 .1 .0
 
 gen-expr-same-length-17 : (t : ℕ) → gen-expr-lts.Need-same-length-17 (gen-expr-calls t) (gen-expr-at t) gen-expr.Post
-gen-expr-same-length-17 t c = c .before .before .before .before .before .before .before .before .before .before .before .before .before .each2 .kept .1 .1 .1 .1 .1 .0
+gen-expr-same-length-17 t c = c .before .before .before .before .before .before .before .before .before .before .before .before .each2 .kept .1 .1 .1 .1 .1 .0
 
 gen-expr-returns-10 : (t : ℕ) → gen-expr-lts.Need-returns-10 (gen-expr-calls t) (gen-expr-at t) gen-expr.Post
-gen-expr-returns-10 t c = rw (expr-at (is-node (now (c .before .before .before .before .before .before .before .before .before .before .before .before .before .before .before .before .before .before .before .before .before .before .before .before .before .before .before .before .before .before .before .args .file)) (c .before .before .before .before .before .before .before .before .before .before .before .before .before .before .before .before .before .before .before .before .before .before .before .before .before .before .before .before .before .before .before .args .l) (c .before .before .before .before .before .before .before .before .before .before .before .before .before .before .before .before .before .before .before .before .before .before .before .before .before .before .before .before .before .before .before .args .p) ((c .before .before .before .before .before .before .before .before .before .before .before .before .before .before .before .before .before .before .before .before .before .before .before .before .before .before .before .before .before .before .before .pre .1) .within) (c .before .before .before .before .before .before .before .before .before .before .before .before .before .before .before .before .before .before .before .before .before .before .before .before .before .node-at .ensures)) (c .before .before .before .before .before .before .before .before .before .before .before .before .before .before .before .before .before .before .before .before .before .before .before .before .before .before .before .before .before .before .before .args .discard) (c .before .before .before .before .before .before .before .before .before .before .before .before .before .before .before .before .before .before .before .before .before .before .root .given .1), (c .before .before .before .before .before .before .before .before .before .before .before .before .before .before .before .before .before .before .before .enum-told5 .given .1)) (object-arm (c .before .before .before .before .before .before .before .before .before .before .before .before .before .before .before .before .before .before .before .before .before .before .before .before .before .before .before .before .before .before .before .args .l) (c .before .before .before .before .before .before .before .before .before .before .before .before .before .before .before .before .before .before .before .before .before .before .before .before .before .node-at .result .children) (loopOf (c .before .before .before .before .before .before .before .before .before .before .before .before .before .before .before .before .no-loop2 .result)) (c .before .before .before .before .before .before .before .before .before .before .before .before .before .before .before .before .before .before .list-at .ensures) (c .before .before .before .before .before .before .before .before .before .before .before .before .before .before .before .before .before .counts-of .result .trees) (ap (λ (x : Counts). x .trees) (c .before .before .before .before .before .before .before .before .before .before .before .before .before .before .before .before .before .counts-of .ensures)) (c .before .before .before .before .before .before .before .before .before .before .before .before .before .each2 .ensures) (c .before .before .before .before .before .before .before .push-count .ensures (now (c .before .before .before .before .before .before .before .before .before .before .before .before .before .before .before .before .before .before .before .before .before .before .before .before .before .before .before .before .before .before .before .args .file))) (c .before .before .action-down .ensures (now (c .before .before .before .before .before .before .before .before .before .before .before .before .before .before .before .before .before .before .before .before .before .before .before .before .before .before .before .before .before .before .before .args .file))))
+gen-expr-returns-10 t c = rw (expr-at (is-node (now (c .before .before .before .before .before .before .before .before .before .before .before .before .before .before .before .before .before .before .before .before .before .before .before .before .before .before .before .before .before .before .args .file)) (c .before .before .before .before .before .before .before .before .before .before .before .before .before .before .before .before .before .before .before .before .before .before .before .before .before .before .before .before .before .before .args .l) (c .before .before .before .before .before .before .before .before .before .before .before .before .before .before .before .before .before .before .before .before .before .before .before .before .before .before .before .before .before .before .args .p) ((c .before .before .before .before .before .before .before .before .before .before .before .before .before .before .before .before .before .before .before .before .before .before .before .before .before .before .before .before .before .before .pre .1) .within) (c .before .before .before .before .before .before .before .before .before .before .before .before .before .before .before .before .before .before .before .before .before .before .before .before .node-at .ensures)) (c .before .before .before .before .before .before .before .before .before .before .before .before .before .before .before .before .before .before .before .before .before .before .before .before .before .before .before .before .before .before .args .discard) (c .before .before .before .before .before .before .before .before .before .before .before .before .before .before .before .before .before .before .before .before .before .root .given .1), (c .before .before .before .before .before .before .before .before .before .before .before .before .before .before .before .before .before .before .enum-told5 .given .1)) (object-arm (c .before .before .before .before .before .before .before .before .before .before .before .before .before .before .before .before .before .before .before .before .before .before .before .before .before .before .before .before .before .before .args .l) (c .before .before .before .before .before .before .before .before .before .before .before .before .before .before .before .before .before .before .before .before .before .before .before .before .node-at .result .children) (loopOf (c .before .before .before .before .before .before .before .before .before .before .before .before .before .before .before .no-loop2 .result)) (c .before .before .before .before .before .before .before .before .before .before .before .before .before .before .before .before .before .list-at .ensures) (c .before .before .before .before .before .before .before .before .before .before .before .before .before .before .before .before .width-of .result) (c .before .before .before .before .before .before .before .before .before .before .before .before .before .before .before .before .width-of .ensures) (c .before .before .before .before .before .before .before .before .before .before .before .before .each2 .ensures) (c .before .before .before .before .before .before .push-count .ensures (now (c .before .before .before .before .before .before .before .before .before .before .before .before .before .before .before .before .before .before .before .before .before .before .before .before .before .before .before .before .before .before .args .file))) (c .before .before .action-down .ensures (now (c .before .before .before .before .before .before .before .before .before .before .before .before .before .before .before .before .before .before .before .before .before .before .before .before .before .before .before .before .before .before .args .file))))
 
 gen-expr-same-length-18 : (t : ℕ) → gen-expr-lts.Need-same-length-18 (gen-expr-calls t) (gen-expr-at t) gen-expr.Post
 gen-expr-same-length-18 t c = c .before .before .action-down2 .kept .0 ∙ c .before .before .before .before .before .before .before .before .args2 .kept .1 .1 .1 .1 .0
@@ -1335,7 +1336,7 @@ gen-expr-same-length-19 : (t : ℕ) → gen-expr-lts.Need-same-length-19 (gen-ex
 gen-expr-same-length-19 t c = c .before .before .before .before .before .before .before .before .args2 .kept .1 .1 .1 .1 .1 .0
 
 gen-expr-returns-11 : (t : ℕ) → gen-expr-lts.Need-returns-11 (gen-expr-calls t) (gen-expr-at t) gen-expr.Post
-gen-expr-returns-11 t c = rw (expr-at (is-node (now (c .before .before .before .before .before .before .before .before .before .before .before .before .before .before .before .before .before .before .before .before .before .before .before .before .before .args .file)) (c .before .before .before .before .before .before .before .before .before .before .before .before .before .before .before .before .before .before .before .before .before .before .before .before .before .args .l) (c .before .before .before .before .before .before .before .before .before .before .before .before .before .before .before .before .before .before .before .before .before .before .before .before .before .args .p) ((c .before .before .before .before .before .before .before .before .before .before .before .before .before .before .before .before .before .before .before .before .before .before .before .before .before .pre .1) .within) (c .before .before .before .before .before .before .before .before .before .before .before .before .before .before .before .before .before .before .before .node-at .ensures)) (c .before .before .before .before .before .before .before .before .before .before .before .before .before .before .before .before .before .before .before .before .before .before .before .before .before .args .discard) (c .before .before .before .before .before .before .before .before .before .before .before .before .before .before .before .before .root .given .1), (c .before .before .before .before .before .before .before .before .before .before .before .before .before .enum-told6 .given .1)) (array-arm (c .before .before .before .before .before .before .before .before .before .before .before .before .before .before .before .before .before .before .before .before .before .before .before .before .before .args .l) (c .before .before .before .before .before .before .before .before .before .before .before .before .before .before .before .before .before .before .before .node-at .result .children) (c .before .before .before .before .before .before .before .before .before .before .before .before .list-at2 .ensures) (c .before .before .before .before .before .before .before .before .before .before .before .counts-of2 .result .trees) (ap (λ (x : Counts). x .trees) (c .before .before .before .before .before .before .before .before .before .before .before .counts-of2 .ensures)) (c .before .before .before .before .before .before .before .before .args2 .ensures) (c .before .before .action-down2 .ensures (now (c .before .before .before .before .before .before .before .before .before .before .before .before .before .before .before .before .before .before .before .before .before .before .before .before .before .args .file))))
+gen-expr-returns-11 t c = rw (expr-at (is-node (now (c .before .before .before .before .before .before .before .before .before .before .before .before .before .before .before .before .before .before .before .before .before .before .before .before .before .args .file)) (c .before .before .before .before .before .before .before .before .before .before .before .before .before .before .before .before .before .before .before .before .before .before .before .before .before .args .l) (c .before .before .before .before .before .before .before .before .before .before .before .before .before .before .before .before .before .before .before .before .before .before .before .before .before .args .p) ((c .before .before .before .before .before .before .before .before .before .before .before .before .before .before .before .before .before .before .before .before .before .before .before .before .before .pre .1) .within) (c .before .before .before .before .before .before .before .before .before .before .before .before .before .before .before .before .before .before .before .node-at .ensures)) (c .before .before .before .before .before .before .before .before .before .before .before .before .before .before .before .before .before .before .before .before .before .before .before .before .before .args .discard) (c .before .before .before .before .before .before .before .before .before .before .before .before .before .before .before .before .root .given .1), (c .before .before .before .before .before .before .before .before .before .before .before .before .before .enum-told6 .given .1)) (array-arm (c .before .before .before .before .before .before .before .before .before .before .before .before .before .before .before .before .before .before .before .before .before .before .before .before .before .args .l) (c .before .before .before .before .before .before .before .before .before .before .before .before .before .before .before .before .before .before .before .node-at .result .children) (c .before .before .before .before .before .before .before .before .before .before .before .before .list-at2 .ensures) (c .before .before .before .before .before .before .before .before .before .before .before .width-of2 .result) (c .before .before .before .before .before .before .before .before .before .before .before .width-of2 .ensures) (c .before .before .before .before .before .before .before .before .args2 .ensures) (c .before .before .action-down2 .ensures (now (c .before .before .before .before .before .before .before .before .before .before .before .before .before .before .before .before .before .before .before .before .before .before .before .before .before .args .file))))
 
 gen-expr-same-length-20 : (t : ℕ) → gen-expr-lts.Need-same-length-20 (gen-expr-calls t) (gen-expr-at t) gen-expr.Post
 gen-expr-same-length-20 t c = c .before .before .action4 .kept .0 ∙ c .before .before .before .before .before .before .before .before .each3 .kept .1 .1 .1 .1 .0
@@ -2813,7 +2814,7 @@ pub +adjust+args+drag+each+ends+exit+for-expr+gen-binary-op+gen-call+gen-expr+ge
     gen-call.Post
     (gen-call-kid-at-requires t)
     (gen-call-list-at-requires t)
-    (gen-call-counts-of-requires t)
+    (gen-call-width-of-requires t)
     (gen-call-args-requires t)
     (gen-call-for-expr-requires t)
     (gen-call-call-new-requires t)
@@ -2858,7 +2859,7 @@ pub +adjust+args+drag+each+ends+exit+for-expr+gen-binary-op+gen-call+gen-expr+ge
     (gen-expr-gen-ternary-requires t)
     (gen-expr-enum-told-5 t)
     (gen-expr-list-at-requires t)
-    (gen-expr-counts-of-requires t)
+    (gen-expr-width-of-requires t)
     (gen-expr-no-loop-requires-2 t)
     (gen-expr-each-requires-2 t)
     (gen-expr-push-count-requires t)
@@ -2866,7 +2867,7 @@ pub +adjust+args+drag+each+ends+exit+for-expr+gen-binary-op+gen-call+gen-expr+ge
     (gen-expr-action-down-requires t)
     (gen-expr-enum-told-6 t)
     (gen-expr-list-at-requires-2 t)
-    (gen-expr-counts-of-requires-2 t)
+    (gen-expr-width-of-requires-2 t)
     (gen-expr-args-requires t)
     (gen-expr-action-down-requires-2 t)
     (gen-expr-enum-told-7 t)
