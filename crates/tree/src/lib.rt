@@ -173,11 +173,11 @@ pub fn width_of(file: &[u8], l: Layout, p: Part) -> u32
     ensures { λ r. ⌜ r ≡ width (trees (now (file .entry)) p) ⌝ }
 {
     let mut count: u32 = 0;
-    let mut left = p;
-    while left.n != 0 {
+    let mut rest = p;
+    while rest.n != 0 {
         count += 1;
-        let before = rest_of(file, l, left);
-        left = before;
+        let before = rest_of(file, l, rest);
+        rest = before;
     }
     count
 }

@@ -6,10 +6,10 @@ use Rattle.tree.proofs.width_of.Statement.{statement}
 use Rattle.tree.proofs.width_of.Tie as tie
 
 abbrev Inv-loop : tie.InvT-loop
-Inv-loop file l count₀ left₀ count left = Measured file l left₀ count left
+Inv-loop file l count₀ rest₀ count rest = Measured file l rest₀ count rest
 
 abbrev μ-loop : tie.MeasureT-loop
-μ-loop file l count₀ left₀ count left = left .n
+μ-loop file l count₀ rest₀ count rest = rest .n
 
 loop-holds : tie.Need-loop-holds Inv-loop μ-loop
 loop-holds c = search (needs, measured-start)
