@@ -46,13 +46,23 @@ fn array(values: Vec<Node>) -> Vec<Node> {
     vec![run(node(INIT_ARRAY, [list(values)]))]
 }
 
+/// A function with this body in compound assignments of so many levels, each of which generates its left side twice.
+fn again(levels: u32, body: Vec<Node>) -> Vec<Node> {
+    vec![run((0..levels).fold(function(0, 0, 0, &[], body), |e, _| binary(2, field(e, integer(1)), integer(2))))]
+}
+
+/// So many Voids, which generate nothing.
+fn voids(count: usize) -> Vec<Node> {
+    vec![node(VOID, [integer(1)]); count]
+}
+
 const NONE: [&str; 0] = [];
 const FEW: [&str; 4] = ["a", "b", "f", "text"];
 
 fn shapes() -> Vec<Shape> {
     let (strings, pushes) = pooled(1_820);
-    let body = function(0, 0, 0, &[], vec![node(BREAK, []); 50_000]);
-    let again = (0..58).fold(body, |e, _| binary(2, field(e, integer(1)), integer(2)));
+    let nested = (0..40).fold(block(vec![]), |inner, _| block(vec![inner]));
+    let update = for_classic(None, vec![], voids(26_000), block(vec![]));
     let left = (0..60).fold(name(0), |e, _| binary(2, field(e, integer(1)), integer(2)));
     let right = (0..100).fold(integer(1), |e, _| binary(2, name(0), e));
     let steps = (0..60).fold(name(0), |e, _| unary(3, 0, field(e, integer(1))));
@@ -65,7 +75,13 @@ fn shapes() -> Vec<Shape> {
         shape("2,048 values", &NONE, array(vec![integer(7); 2_047])),
         shape("1 MiB of one string", &["a".repeat(1_048_000)], vec![run(integer(1))]),
         shape("1 MiB of records", &NONE, vec![node(BREAK, []); 52_426]),
-        shape("50,000 siblings in a function that is emitted again and again", &FEW, vec![run(again)]),
+        shape("50,000 siblings in a function that is emitted again and again", &FEW, again(58, vec![node(BREAK, []); 50_000])),
+        shape("25,000 empty blocks, again and again", &FEW, again(58, vec![block(vec![]); 25_000])),
+        shape("620 blocks 41 deep, again and again", &FEW, again(8, vec![nested; 620])),
+        shape("16,600 Voids as statements, again and again", &FEW, again(58, voids(16_600).into_iter().map(run).collect())),
+        shape("26,000 Voids in an array, again and again", &FEW, again(58, array(voids(26_000)))),
+        shape("26,000 Voids in a loop's update, again and again", &FEW, again(58, vec![update])),
+        shape("26,000 Voids returned, again and again", &FEW, again(58, vec![node(RETURN, [list(voids(26_000))])])),
         shape("compound assignments, 60 deep on the left", &FEW, vec![run(left)]),
         shape("compound assignments, 100 deep on the right", &FEW, vec![run(right)]),
         shape("increments, 60 deep", &FEW, vec![run(steps)]),
