@@ -1,12 +1,12 @@
 -- What a parent looks at in a child's record.
-use Prim.Native.Nat.{ℕ, zero, suc, _+_, _-_, _≤_}
-use mathlib.Core.Path.{_≡_, refl, sym}
+use Prim.Native.Nat.{ℕ, zero, suc, _+_, _-_, _≤_, _<_}
+use mathlib.Core.Path.{_≡_, refl, sym, ap, _∙_}
 use mathlib.Core.Bool.{Bool, true, false, cond, not, _&&_, _||_, and-false, false≢true}
 use mathlib.Core.List.{List, [], _∷_}
 use native.Mathlib.Omega.{arith}
 use lib.Dec.{T, ltb, eqb}
 use lib.ListN.{length, getD}
-use borrow.Author.Tests.{ne-eqb}
+use borrow.Author.Tests.{eqb-true, eqb-false, ne-eqb}
 use Rattle.hir.specs.Hir.{Rec}
 use Rattle.hir.specs.Tree.{Forest}
 use Rattle.hir.specs.declared.ExprKind.{ExprKind}
@@ -17,7 +17,7 @@ use Rattle.hir.specs.declared.StatementKind.the-variants as statement
 use Rattle.pcode.specs.Pcode.{moved}
 use Rattle.script_records.specs.declared.layout.Layout.{Layout}
 use Rattle.script_records.specs.declared.part.Part.{Part}
-use Rattle.script_records.specs.Layout.{Words, wordsOf, supported, rowsOf, layoutOf, stringAt}
+use Rattle.script_records.specs.Layout.{Words, wordsOf, supported, rowsOf, rowIn, layoutOf, stringAt}
 use Rattle.script_records.specs.Parts.{lastTree}
 use Rattle.decode.specs.Decode.{statementKinds, exprKinds, plainOf, recordOf}
 use Rattle.script.specs.Resolve.{resolved}
@@ -27,11 +27,12 @@ use Rattle.lowering.specs.Statement.{meanings}
 use Rattle.list_slice.specs.File.{textIn, namesString}
 use Rattle.tree.specs.declared.Node.{Node}
 use Rattle.tree.specs.Trees.{recOf, trees, nodeOf, kindAt}
-use Rattle.tree.specs.Within.{Within, IsList, record-named, kidAt, listAt}
-use Rattle.tree.proofs.Nodes.{is-node}
-use Rattle.tree.proofs.ByKind.{either}
+use Rattle.tree.specs.Within.{Within, IsNode, record-named, kidAt, listAt}
+use Rattle.tree.proofs.Nodes.{is-node, trees-none}
+use Rattle.tree.proofs.ByKind.{either, kids-none, kids-made}
 use Rattle.tree.proofs.Meanings.{kid-zero, list-zero}
 use Rattle.access.proofs.Texts.{text-is}
+use Rattle.rows.proofs.Kept.{below, child-kind}
 
 -- a record's name
 
@@ -199,10 +200,34 @@ unnamed-child Rec.Other kids h = refl
 unnamed-child (Rec.ObjectField key) kids h = refl
 unnamed-child (Rec.Parameter name r) kids h = refl
 
-pub of-other-child : (F : List ℕ) (l : Layout) (p : Part) {kids : Part} → IsList F l p 0 kids → (kindAt F l kids ≡ 49 → ⊥) → false ≡ hoisted (kidAt F p 0 .rec) (listAt F p 0)
-of-other-child F l p {kids} i h =
-    let n = is-node F l kids (i .within) refl in
-    sym (unnamed-child (kidAt F p 0 .rec) (listAt F p 0) (rw (i .means, kid-zero F l kids n) (unnamed-root F l kids h)))
+-- the record before the tree's own is that of its child, if it has one
+module _ (F : List ℕ) (l : Layout) (p : Part) (w : Within F l p) where
+  kids-of : IsNode F l (below F l p w) (nodeOf F l (below F l p w))
+  kids-of = is-node F l (below F l p w) (is-node F l p w refl .kids-within) refl
+
+  ends-before : (p .n ≡ 0 → ⊥) → below F l p w .end ≡ p .end - 1
+  unfolding lastTree
+  ends-before z = ap (λ (k : Part). k .end) (sym (kids-made F l p z refl))
+
+  pub no-child : p .end < 2 → below F l p w .n ≡ 0
+  no-child h = by (eqb (p .n) 0) refl
+    where
+      by : (b : Bool) → eqb (p .n) 0 ≡ b → below F l p w .n ≡ 0
+      by true x = ap (λ (k : Part). k .n) (sym (kids-none F l p (eqb-true _ 0 x))) ∙ eqb-true _ 0 x
+      by false x = omega (arith, is-node F l p w refl .kids-within .inside, ends-before (eqb-false _ 0 x))
+
+  pub of-no-child : below F l p w .n ≡ 0 → false ≡ hoisted (kidAt F p 0 .rec) (listAt F p 0)
+  unfolding meanings
+  of-no-child z = sym (unnamed-child (kidAt F p 0 .rec) (listAt F p 0) (rw (list-zero F l p (is-node F l p w refl), trees-none F (below F l p w) z)))
+
+  pub of-other-child : (rowIn (rowsOf F l) (p .end - 2) .kind ≡ 49 → ⊥) → false ≡ hoisted (kidAt F p 0 .rec) (listAt F p 0)
+  of-other-child h = by (eqb (below F l p w .n) 0) refl
+    where
+      by : (b : Bool) → eqb (below F l p w .n) 0 ≡ b → false ≡ hoisted (kidAt F p 0 .rec) (listAt F p 0)
+      by true x = of-no-child (eqb-true _ 0 x)
+      by false x =
+          let k : kindAt F l (below F l p w) ≡ 49 → ⊥ = λ q. h (sym (child-kind F l p w (eqb-false _ 0 x)) ∙ q) in
+          sym (unnamed-child (kidAt F p 0 .rec) (listAt F p 0) (rw (list-zero F l p (is-node F l p w refl), kid-zero F l (below F l p w) kids-of) (unnamed-root F l (below F l p w) k)))
 
 -- a function without a name leaves its value
 

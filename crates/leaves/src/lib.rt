@@ -49,13 +49,13 @@ use pcode::Op;
 use pcode::PushValue;
 use rows::Target;
 use script_records::layout::Layout;
+use script_records::layout::row_at;
 use script_records::layout::string;
 use script_records::part::Part;
 use script_records::part::last_tree;
 use tree::Counts;
 use tree::Element;
 use tree::kind_at;
-use tree::list_at;
 use tree::node_at;
 use tree::rest_of;
 
@@ -349,7 +349,8 @@ fn is_named(file: &[u8], l: Layout, p: Part) -> bool
     }
 }
 
-// Most statements are none, which their kind tells, and most of those that are expressions are no functions, which their child's kind tells.
+// Most statements are none, which their kind tells, and most of those that are expressions are no functions, which the kind
+// of the record before theirs tells.
 fn may_be_hoisted(file: &[u8], l: Layout, p: Part) -> bool
     requires { ⌜ Within (now file) l p ⌝ }
     ensures { λ r. ⌜ (r ≡ false → false ≡ hoisted (kidAt (now (file .entry)) p 0 .rec) (listAt (now (file .entry)) p 0)) ⌝ }
@@ -357,8 +358,11 @@ fn may_be_hoisted(file: &[u8], l: Layout, p: Part) -> bool
     if kind_at(file, l, p) != 3 {
         return false;
     }
-    let kids = list_at(file, l, p, 0);
-    kind_at(file, l, kids) == 49
+    if p.end < 2 {
+        return false;
+    }
+    let row = row_at(file, l, p.end - 2);
+    row.kind == 49
 }
 
 pub fn is_hoisted(file: &[u8], l: Layout, p: Part) -> bool

@@ -33,7 +33,7 @@ use Rattle.tree.specs.declared.Node.{Node}
 use Rattle.tree.specs.Trees.{rowsIn, recOf, nodeOf, kindAt}
 use Rattle.tree.specs.Within.{Within, IsNode, IsList, meaningsAt, kidAt, listAt}
 use Rattle.tree.proofs.Nodes.{is-node, trees-none, trees-more}
-use Rattle.tree.proofs.ByKind.{kind-none}
+use Rattle.tree.proofs.ByKind.{kind-none, kind-made, kids-none, kids-made}
 use Rattle.tree.proofs.Meanings.{kid-zero, list-zero}
 use Rattle.builder.specs.Labels.{labels-of, one-label}
 use Rattle.rows.specs.declared.Each.{Each}
@@ -296,12 +296,31 @@ module _ (F : List ℕ) (l : Layout) {breaks continues : Bool} (lp : Loop) (no-b
       (those-still n (nodeOf F l p .before) (omega (arith, g .apart)) (g .rest-within) (inside p _ (before-inside F l p w) a))
       (those-still n (nodeOf F l kids .children) (omega (arith, g .apart, k .apart)) (k .kids-within) (inside kids _ (kids-inside F l kids (g .kids-within)) (inside p _ (kids-inside F l p w) a))) b
 
--- the last child of a tree is a Void; all records of the children are of idle kinds
-module _ (F : List ℕ) (l : Layout) (p : Part) {kids : Part} (i : IsList F l p 0 kids) where
-  pub void-kid : kindAt F l kids ≡ 48 → kid 0 (listAt F p 0) .gen-expr true ≡ done
-  unfolding resolved
-  void-kid k = rw (i .means, kid-zero F l kids (node-is F l kids (i .within)), void-root F l kids k)
+-- the record before a tree's own is that of its last child
+module _ (F : List ℕ) (l : Layout) (p : Part) (w : Within F l p) where
+  abbrev pub below : Part
+  below = nodeOf F l p .children
 
+  pub child-kind : (below .n ≡ 0 → ⊥) → kindAt F l below ≡ rowIn (rowsOf F l) (p .end - 2) .kind
+  unfolding lastTree
+  child-kind h =
+      let z : p .n ≡ 0 → ⊥ = λ q. h (ap (λ (k : Part). k .n) (sym (kids-none F l p q)) ∙ q) in
+      let e : below .end ≡ p .end - 1 = ap (λ (k : Part). k .end) (sym (kids-made F l p z refl)) in
+      let a : below .end - 1 ≡ p .end - 2 = omega (arith, e) in
+      sym (kind-made F l below h refl) ∙ ap (λ (n : ℕ). rowIn (rowsOf F l) n .kind) a
+
+  pub void-below : rowIn (rowsOf F l) (p .end - 2) .kind ≡ 48 → kid 0 (listAt F p 0) .gen-expr true ≡ done
+  unfolding resolved meanings
+  void-below k = by (eqb (below .n) 0) refl
+    where
+      by : (b : Bool) → eqb (below .n) 0 ≡ b → kid 0 (listAt F p 0) .gen-expr true ≡ done
+      by true x = rw (list-zero F l p (node-is F l p w), trees-none F below (eqb-true _ 0 x))
+      by false x =
+          let v = void-root F l below (child-kind (eqb-false _ 0 x) ∙ k) in
+          rw (list-zero F l p (node-is F l p w), kid-zero F l below (node-is F l below (node-is F l p w .kids-within)), v)
+
+-- all records of the children are of idle kinds
+module _ (F : List ℕ) (l : Layout) (p : Part) {kids : Part} (i : IsList F l p 0 kids) where
   pub idle-hollow : {breaks continues : Bool} → AllIdle F l (kids .end - kids .n) (kids .end) breaks continues → Hollow F p breaks continues
   idle-hollow a lp b c =
       let k = node-is F l kids (i .within) in

@@ -58,13 +58,16 @@ fn is_idle(what: Each, target: Target) -> bool
     }
 }
 
-// Whether the last tree is over a Void, whose operand is not generated.
+// Whether the last tree is over a Void, whose operand is not generated. The last child's record stands before its parent's.
 fn is_void(file: &[u8], l: Layout, p: Part) -> bool
     requires { ⌜ Within (now file) l p ⌝ }
     ensures { λ r. ⌜ (r ≡ true → kid 0 (listAt (now (file .entry)) p 0) .gen-expr true ≡ done) ⌝ }
 {
-    let kids = list_at(file, l, p, 0);
-    kind_at(file, l, kids) == 48
+    if p.end < 2 {
+        return false;
+    }
+    let row = row_at(file, l, p.end - 2);
+    row.kind == 48
 }
 
 // Whether a statement of this kind generates nothing, if those in it generate nothing: a Block, its list, a Break and a Continue.
