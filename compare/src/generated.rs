@@ -11,6 +11,8 @@ pub enum Kind {
     Scripts,
     /// Script files that fill the pool, most of them over its end.
     Overflow,
+    /// Script files in which much generates nothing.
+    Idle,
     /// Action bytes.
     Bytes,
 }
@@ -20,6 +22,7 @@ impl Kind {
         Some(match text {
             "scripts" => Kind::Scripts,
             "overflow" => Kind::Overflow,
+            "idle" => Kind::Idle,
             "bytes" => Kind::Bytes,
             _ => return None,
         })
@@ -55,6 +58,7 @@ pub fn files(kind: Kind, seed: u64, count: usize) -> impl Iterator<Item = File> 
     let (letter, made): (_, Box<dyn Iterator<Item = _>>) = match kind {
         Kind::Scripts => ('r', Box::new(made(random_scripts::Maker::new(seed, None)))),
         Kind::Overflow => ('o', Box::new(made(random_scripts::Maker::new(seed, Some(Sort::Overflow))))),
+        Kind::Idle => ('i', Box::new(made(random_scripts::Maker::new(seed, Some(Sort::Idle))))),
         Kind::Bytes => ('b', Box::new(made(random_bytes::Maker::new(seed)))),
     };
     let file = move |(n, (bytes, state))| File { name: format!("{letter}{seed}_{n}"), bytes, state };

@@ -43,6 +43,7 @@ pub enum Sort {
     Depth,
     Pool,
     Overflow,
+    Idle,
     Offset,
     Length,
     Refused,
@@ -491,6 +492,51 @@ impl Maker {
         statements
     }
 
+    /// A row of statements, most of which generate nothing where Break and Continue have no label.
+    fn idle_row(&mut self, depth: usize) -> Vec<Node> {
+        if depth == 6 {
+            self.begin();
+        }
+        let count = self.r.pick(&[0, 1, 2, 3, 5, 9]);
+        (0..count).map(|_| self.idle_statement(depth)).collect()
+    }
+
+    fn idle_values(&mut self) -> Vec<Node> {
+        let count = self.r.below(6);
+        (0..count).map(|_| if self.r.one_in(3) { self.leaf() } else { node(VOID, [self.leaf()]) }).collect()
+    }
+
+    fn idle_statement(&mut self, depth: usize) -> Node {
+        let choices = if depth == 0 { 6 } else { 18 };
+        match self.r.below(choices) {
+            0 | 1 => node(BREAK, []),
+            2 => node(CONTINUE, []),
+            3 => block(vec![]),
+            4 => run(node(VOID, [self.leaf()])),
+            5 => run(self.leaf()),
+            6 => while_loop(self.leaf(), block(self.idle_row(depth - 1))),
+            7 => {
+                let mut elements = self.idle_row(depth - 1);
+                for element in [case(self.leaf()), default()] {
+                    if self.r.one_in(2) {
+                        let at = self.r.below(elements.len() + 1);
+                        elements.insert(at, element);
+                    }
+                }
+                switch(self.leaf(), elements)
+            }
+            8 => {
+                let named = if self.strings.is_empty() || self.r.one_in(2) { 0 } else { 1 + self.index() };
+                run(function(named, 0, 0, &[], self.idle_row(depth - 1)))
+            }
+            9 => node(RETURN, [list(self.idle_values())]),
+            10 => for_classic(None, self.idle_values(), self.idle_values(), block(self.idle_row(depth - 1))),
+            11 => run(node(INIT_ARRAY, [list(self.idle_values())])),
+            12 => run(call(self.leaf(), self.idle_values())),
+            _ => block(self.idle_row(depth - 1)),
+        }
+    }
+
     /// A branch over a long record, near the reach of 16 bits.
     fn offset(&mut self) -> Vec<Node> {
         self.begin();
@@ -576,6 +622,7 @@ impl Maker {
             Sort::Depth => self.deep(),
             Sort::Pool => self.pool(),
             Sort::Overflow => self.overflow(),
+            Sort::Idle => self.idle_row(6),
             Sort::Offset => self.offset(),
             Sort::Length => self.length(),
             Sort::Refused => self.refused(),

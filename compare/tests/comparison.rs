@@ -25,7 +25,7 @@ fn smallest(kind: Kind, rascal: fn(&[u8]) -> String, wrong: fn(&[u8]) -> bool) -
 #[test]
 fn a_run_without_a_difference_counts_what_it_compares() {
     let sides = Sides::of(rascal_compiled, rascal_compiled);
-    for (kind, originals, overflow) in [(Kind::Scripts, 1_000, 10), (Kind::Overflow, 100, 80)] {
+    for (kind, originals, overflow) in [(Kind::Scripts, 1_000, 10), (Kind::Overflow, 100, 80), (Kind::Idle, 1_000, 0)] {
         let (counts, difference) = compare(&sides, kind, files(kind, 5, 3 * originals));
         assert!(difference.is_none());
         let (whole, damaged) = (&counts[&State::Undamaged], &counts[&State::Damaged]);
@@ -97,7 +97,8 @@ fn action_bytes_without_lists() {
 #[test]
 fn a_program_as_the_verified_side() {
     let oracle = |call: &str| vec![env!("CARGO_BIN_EXE_oracle").to_string(), call.to_string()];
-    for (kind, call) in [(Kind::Scripts, "compile"), (Kind::Overflow, "compile"), (Kind::Bytes, "reads")] {
+    for (kind, call) in [(Kind::Scripts, "compile"), (Kind::Overflow, "compile"), (Kind::Idle, "compile"), (Kind::Bytes, "reads")]
+    {
         let sides = Sides::with_program(kind, oracle(call));
         assert!(compare(&sides, kind, files(kind, 6, 900)).1.is_none());
     }
