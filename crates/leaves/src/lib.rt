@@ -349,7 +349,7 @@ fn is_named(file: &[u8], l: Layout, p: Part) -> bool
     }
 }
 
-// Most statements are none, which their kind tells, and most of those that are expressions are no functions, which the kind
+// Whether a statement can be hoisted. Most can not, which their kind tells, and most of those that are expressions are no functions, which the kind
 // of the record before theirs tells.
 fn may_be_hoisted(file: &[u8], l: Layout, p: Part) -> bool
     requires { ⌜ Within (now file) l p ⌝ }
