@@ -6,7 +6,6 @@ use mathlib.Core.List.{List}
 use native.Mathlib.Omega.{arith}
 use lib.Dec.{T}
 use lib.ListN.{length}
-use borrow.Author.Tests.{ne-eqb}
 use Rattle.hir.specs.declared.ConstantKind.{ConstantKind}
 use Rattle.hir.specs.declared.ExprKind.{ExprKind}
 use Rattle.hir.specs.declared.ExprKind.the-variants as expr-kind
@@ -17,7 +16,7 @@ use Rattle.script_records.specs.declared.part.Part.{Part}
 use Rattle.script_records.specs.declared.part.Tree.{Tree}
 use Rattle.script_records.specs.Layout.{wordsOf, rowsOf, layoutOf, stringAt}
 use Rattle.script_records.specs.Parts.{lastTree}
-use Rattle.decode.specs.Decode.{constantOf, recordOf, plainOf, exprKinds}
+use Rattle.decode.specs.Decode.{constantOf, recordOf}
 use Rattle.script.specs.Resolve.{resolved, exprOver}
 use Rattle.lowering.specs.Builder.{_>>_, push}
 use Rattle.lowering.specs.Meaning.{Meaning, width}
@@ -33,6 +32,7 @@ use Rattle.tree.specs.Within.{Within, IsNode, constant-named, meaningsAt, kidAt
 use Rattle.tree.proofs.Nodes.{is-node, node-made, trees-more, trees-none}
 use Rattle.tree.proofs.ByKind.{kind-none, rest-made}
 use Rattle.tree.proofs.Meanings.{kid-zero}
+use Rattle.rows.proofs.Kept.{void-root}
 use Rattle.leaves.specs.Args.{Args, Unchanged}
 use Rattle.leaves.proofs.Constants.{Reads}
 
@@ -117,10 +117,6 @@ module _ (F : List ℕ) (l : Layout) (left : Part) (k : kindAt F l left ≡ 48) 
   some-left : left .n ≡ 0 → ⊥
   some-left z = omega (arith, kind-none F l left z)
 
-  void-root : nodeOf F l left .root ≡ kind.Expr expr-kind.Void
-  unfolding kindAt nodeOf recordOf plainOf exprKinds
-  void-root = let e = rw (ne-eqb (left .n) 0 some-left) at k in rw (ne-eqb (left .n) 0 some-left, e)
-
   module _ {p before : Part} (i : Unchanged F l p left) (e : before ≡ nodeOf F l left .before) where
     pub void-less : before .n < left .n
     void-less = rw e (omega (arith, some-left, is-node F l left (i .within) refl .apart))
@@ -128,7 +124,7 @@ module _ (F : List ℕ) (l : Layout) (left : Part) (k : kindAt F l left ≡ 48) 
     pub void-out : Unchanged F l p before
     void-out =
         let g = is-node F l left (i .within) refl in
-        let nothing : (v : Held (Unit {0})) → after v (kidAt F left 0 .gen-expr false) ≡ v = λ v. rw (expr-at g false void-root) (after-done v) in
+        let nothing : (v : Held (Unit {0})) → after v (kidAt F left 0 .gen-expr false) ≡ v = λ v. rw (expr-at g false (void-root F l left k)) (after-done v) in
         rw e (record {
           same = λ v. sym (rw (reversed-more F l left g (omega (arith, some-left)), after-then, nothing v) refl) ∙ i .same v;
           within = g .rest-within;

@@ -1,6 +1,6 @@
 -- What a parent looks at in a child's record.
 use Prim.Native.Nat.{ℕ, zero, suc, _+_, _-_, _≤_, _<_}
-use mathlib.Core.Path.{_≡_, refl, sym, ap, _∙_}
+use mathlib.Core.Path.{_≡_, refl, sym, _∙_}
 use mathlib.Core.Bool.{Bool, true, false, cond, not, _&&_, _||_, and-false, false≢true}
 use mathlib.Core.List.{List, [], _∷_}
 use native.Mathlib.Omega.{arith}
@@ -29,10 +29,10 @@ use Rattle.tree.specs.declared.Node.{Node}
 use Rattle.tree.specs.Trees.{recOf, trees, nodeOf, kindAt}
 use Rattle.tree.specs.Within.{Within, IsNode, record-named, kidAt, listAt}
 use Rattle.tree.proofs.Nodes.{is-node, trees-none}
-use Rattle.tree.proofs.ByKind.{either, kids-none, kids-made}
+use Rattle.tree.proofs.ByKind.{either}
 use Rattle.tree.proofs.Meanings.{kid-zero, list-zero}
 use Rattle.access.proofs.Texts.{text-is}
-use Rattle.rows.proofs.Kept.{below, child-kind}
+use Rattle.rows.proofs.Kept.{below, none-below, below-end, child-kind}
 
 -- a record's name
 
@@ -205,16 +205,12 @@ module _ (F : List ℕ) (l : Layout) (p : Part) (w : Within F l p) where
   kids-of : IsNode F l (below F l p w) (nodeOf F l (below F l p w))
   kids-of = is-node F l (below F l p w) (is-node F l p w refl .kids-within) refl
 
-  ends-before : (p .n ≡ 0 → ⊥) → below F l p w .end ≡ p .end - 1
-  unfolding lastTree
-  ends-before z = ap (λ (k : Part). k .end) (sym (kids-made F l p z refl))
-
   pub no-child : p .end < 2 → below F l p w .n ≡ 0
   no-child h = by (eqb (p .n) 0) refl
     where
       by : (b : Bool) → eqb (p .n) 0 ≡ b → below F l p w .n ≡ 0
-      by true x = ap (λ (k : Part). k .n) (sym (kids-none F l p (eqb-true _ 0 x))) ∙ eqb-true _ 0 x
-      by false x = omega (arith, is-node F l p w refl .kids-within .inside, ends-before (eqb-false _ 0 x))
+      by true x = none-below F l p w (eqb-true _ 0 x)
+      by false x = omega (arith, is-node F l p w refl .kids-within .inside, below-end F l p w (eqb-false _ 0 x))
 
   pub of-no-child : below F l p w .n ≡ 0 → false ≡ hoisted (kidAt F p 0 .rec) (listAt F p 0)
   unfolding meanings

@@ -124,7 +124,7 @@ module _ (F : List ℕ) (l : Layout) (p : Part) where
   unfolding recordOf resolved
   list-root e = rw (root-is 97 (λ h. omega (arith, h)) e)
 
-  void-root : kindAt F l p ≡ 48 → nodeOf F l p .root ≡ kind.Expr expr.Void
+  pub void-root : kindAt F l p ≡ 48 → nodeOf F l p .root ≡ kind.Expr expr.Void
   unfolding recordOf plainOf exprKinds
   void-root e = root-is 48 (λ h. omega (arith, h)) e
 
@@ -301,12 +301,17 @@ module _ (F : List ℕ) (l : Layout) (p : Part) (w : Within F l p) where
   abbrev pub below : Part
   below = nodeOf F l p .children
 
+  pub none-below : p .n ≡ 0 → below .n ≡ 0
+  none-below q = ap (λ (k : Part). k .n) (sym (kids-none F l p q)) ∙ q
+
+  pub below-end : (p .n ≡ 0 → ⊥) → below .end ≡ p .end - 1
+  unfolding lastTree
+  below-end z = ap (λ (k : Part). k .end) (sym (kids-made F l p z refl))
+
   pub child-kind : (below .n ≡ 0 → ⊥) → kindAt F l below ≡ rowIn (rowsOf F l) (p .end - 2) .kind
   unfolding lastTree
   child-kind h =
-      let z : p .n ≡ 0 → ⊥ = λ q. h (ap (λ (k : Part). k .n) (sym (kids-none F l p q)) ∙ q) in
-      let e : below .end ≡ p .end - 1 = ap (λ (k : Part). k .end) (sym (kids-made F l p z refl)) in
-      let a : below .end - 1 ≡ p .end - 2 = omega (arith, e) in
+      let a : below .end - 1 ≡ p .end - 2 = omega (arith, below-end (λ q. h (none-below q))) in
       sym (kind-made F l below h refl) ∙ ap (λ (n : ℕ). rowIn (rowsOf F l) n .kind) a
 
   pub void-below : rowIn (rowsOf F l) (p .end - 2) .kind ≡ 48 → kid 0 (listAt F p 0) .gen-expr true ≡ done
