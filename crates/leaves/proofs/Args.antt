@@ -32,7 +32,7 @@ use Rattle.tree.specs.Within.{Within, IsNode, constant-named, meaningsAt, kidAt
 use Rattle.tree.proofs.Nodes.{is-node, node-made, trees-more, trees-none}
 use Rattle.tree.proofs.ByKind.{kind-none, rest-made}
 use Rattle.tree.proofs.Meanings.{kid-zero}
-use Rattle.rows.proofs.Kept.{void-root}
+use Rattle.rows.proofs.Passed.{void-root}
 use Rattle.leaves.specs.Args.{Args, Unchanged}
 use Rattle.leaves.proofs.Constants.{Reads}
 

@@ -32,7 +32,7 @@ use Rattle.tree.proofs.Nodes.{is-node, trees-none}
 use Rattle.tree.proofs.ByKind.{either}
 use Rattle.tree.proofs.Meanings.{kid-zero, list-zero}
 use Rattle.access.proofs.Texts.{text-is}
-use Rattle.rows.proofs.Kept.{below, none-below, below-end, child-kind}
+use Rattle.rows.proofs.Passed.{below, none-below, below-end, child-kind}
 
 -- a record's name
 

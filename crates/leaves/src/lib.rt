@@ -49,7 +49,7 @@ use pcode::Op;
 use pcode::PushValue;
 use rows::Target;
 use script_records::layout::Layout;
-use script_records::layout::row_at;
+use script_records::layout::known_row;
 use script_records::layout::string;
 use script_records::part::Part;
 use script_records::part::last_tree;
@@ -361,7 +361,7 @@ fn may_be_hoisted(file: &[u8], l: Layout, p: Part) -> bool
     if p.end < 2 {
         return false;
     }
-    let row = row_at(file, l, p.end - 2);
+    let row = known_row(file, l, p.end - 2);
     row.kind == 49
 }
 

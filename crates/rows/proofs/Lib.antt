@@ -1,1 +1,4 @@
+pub mod Passed
 pub mod Kept
+pub mod Statements
+pub mod Innermost

@@ -5,7 +5,9 @@ ghost use Rattle.lowering.specs.Statement.{no-loop};
 ghost use Rattle.rows.specs.Rows.{loopOf};
 use pcode::Label;
 
+pub mod blocks;
 pub mod ends;
+mod quiet;
 
 // Expressions for their values or for their effects; an object's fields; statements, those that are hoisted, and the others; the tests of a switch, and its
 // elements.

@@ -1,5 +1,5 @@
 -- The areas of a script file (document 01, 'The script file'): string bytes, end offsets, records, trailer.
-use Prim.Native.Nat.{ℕ, zero, suc, _+_, _-_, _*_, min, max}
+use Prim.Native.Nat.{ℕ, zero, suc, _+_, _-_, _*_, _<_, _≤_, min, max}
 use mathlib.Core.List.{List, [], _∷_}
 use mathlib.Core.Bool.{Bool, cond, not, _&&_, _||_}
 use lib.Dec.{leb, eqb}
@@ -97,6 +97,10 @@ wordsOf r = record { kind = r .kind; a = r .a; b = r .b; c = r .c }
 
 abbrev pub rowIn : List Row → ℕ → Row
 rowIn rs i = getD rs i noRow
+
+-- record i is one of the records, and lies whole in the file
+abbrev pub HasRow : List ℕ → Layout → ℕ → Type 0
+HasRow F l i = (i < l .count) × (l .records + 20 * i + 20 ≤ length F)
 
 -- how many records the last subtree has, of the n records that end before record e: its size, but at least 1 and at most n
 unfoldable pub spanAt : List Row → ℕ → ℕ → ℕ

@@ -3,7 +3,7 @@ ghost use mathlib.Core.Path.{_≡_};
 ghost use mathlib.Core.Bool.{_&&_};
 ghost use Prim.Native.Nat.{_+_, _-_, _<_, _≤_};
 ghost use lib.ListN.{length};
-ghost use Rattle.script_records.specs.Layout.{wordAt, hasTrailer, areasTouch, layoutOf, endAt, startAt, stringAt, rowsOf, rowIn, noRow};
+ghost use Rattle.script_records.specs.Layout.{wordAt, hasTrailer, areasTouch, layoutOf, endAt, startAt, stringAt, rowsOf, rowIn, HasRow, noRow};
 
 // Byte positions of the first record and of the first end offset, and how many records and strings there are.
 pub struct Layout {
@@ -107,6 +107,26 @@ fn no_row() -> Row
     }
 }
 
+// Record i, where it lies in the file.
+pub fn known_row(file: &[u8], l: Layout, i: usize) -> Row
+    requires { ⌜ HasRow (now file) l i ⌝ }
+    ensures { λ r. ⌜ r ≡ rowIn (rowsOf (now (file .entry)) l) i ⌝ }
+{
+    let at = l.records + 20 * i;
+    let kind = word(file, at);
+    let a = word(file, at + 4);
+    let b = word(file, at + 8);
+    let c = word(file, at + 12);
+    let size = word(file, at + 16);
+    Row {
+        kind,
+        a,
+        b,
+        c,
+        size,
+    }
+}
+
 // Record i, and zeros where there is none.
 pub fn row_at(file: &[u8], l: Layout, i: usize) -> Row
     ensures { λ r. ⌜ r ≡ rowIn (rowsOf (now (file .entry)) l) i ⌝ }
@@ -121,19 +141,7 @@ pub fn row_at(file: &[u8], l: Layout, i: usize) -> Row
     if file.len() - base < 20 * i + 20 {
         return no_row();
     }
-    let at = base + 20 * i;
-    let kind = word(file, at);
-    let a = word(file, at + 4);
-    let b = word(file, at + 8);
-    let c = word(file, at + 12);
-    let size = word(file, at + 16);
-    Row {
-        kind,
-        a,
-        b,
-        c,
-        size,
-    }
+    known_row(file, l, i)
 }
 
 // Where string i ends, and 0 where its end offset does not lie in the file.

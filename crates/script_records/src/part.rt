@@ -20,7 +20,7 @@ pub struct Tree {
 }
 
 // The difference, and 0 where there is none.
-fn minus(a: usize, b: usize) -> usize
+pub fn minus(a: usize, b: usize) -> usize
     ensures { λ r. ⌜ r ≡ a - b ⌝ }
 {
     if b <= a { a - b } else { 0 }

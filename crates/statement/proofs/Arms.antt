@@ -35,7 +35,9 @@ use Rattle.tree.proofs.Meanings.{kid-zero}
 use Rattle.builder.specs.Labels.{elements-from}
 use Rattle.rows.specs.declared.Each.the-variants.{Expr, Discarded, Field, Statement, Hoisted, Unhoisted, Conditional, Element}
 use Rattle.rows.specs.Rows.{eachOf, any-hoisted, select, callOf}
-use Rattle.statement.proofs.Rows.{same-does, exprs-each, discarded-each, fields-each, hoisted-each, hoisted-none, statements-each, others-each, has-case-is, tests-each, elements-each}
+use Rattle.rows.specs.Innermost.{Innermost}
+use Rattle.rows.proofs.Statements.{hoisted-each, others-each}
+use Rattle.statement.proofs.Rows.{same-does, exprs-each, discarded-each, fields-each, hoisted-none, statements-each, has-case-is, tests-each, elements-each}
 use Rattle.statement.proofs.Laws.{Testing, Switching, rec-is, none-at, values-law, drag-law, condition-law, present-law, has-tests, has-no-tests}
 
 both-false : (d q : Bool) → (not d && not q) ≡ true → (d ≡ false) × (q ≡ false)
@@ -88,11 +90,12 @@ module _ {F : List ℕ} (l : Layout) (p : Part) {b : CodeBuilder} {w : List ℕ}
   pub block-arm : {b1 b2 : CodeBuilder} {w1 w2 : List ℕ} →
       (lp : Loop) →
       {body : Part} → IsList F l p 0 body →
-      Does F (gen-statements lp (meaningsAt F body)) b w tt b1 w1 →
+      {inner : Part} → Innermost F l lp body inner →
+      Does F (gen-statements lp (meaningsAt F inner)) b w tt b1 w1 →
       Does F (truncate-stack (b .size)) b1 w1 tt b2 w2 →
       Does F (gen-block lp (listAt F p 0)) b w tt b2 w2
-  block-arm lp {body = body} k-body d1 d2 =
-      record { same = rw (k-body .means, after-size, after-then, ← d1 .same, d2 .same); fine = d2 .fine; named = λ n. d2 .named (d1 .named n) }
+  block-arm lp {body = body} k-body {inner = inner} i d1 d2 =
+      record { same = rw (k-body .means, i .same, after-size, after-then, ← d1 .same, d2 .same); fine = d2 .fine; named = λ n. d2 .named (d1 .named n) }
 
   pub local-arm : {b1 b2 b3 : CodeBuilder} {w1 w2 w3 : List ℕ} →
       (name : Str) →

@@ -22,11 +22,8 @@ use Rattle.codegen_state.proofs.Steps.{after-then, after-done}
 use Rattle.tree.specs.Trees.{labelled, cases, fromDefault, fromDefault-at, isLabelled, isCase}
 use Rattle.builder.specs.Labels.{one-label, labels-of, with-number, elements-from}
 use Rattle.rows.specs.declared.Each.the-variants.{Expr, Discarded, Field, Statement, Hoisted, Unhoisted, Conditional, Element}
+use Rattle.rows.specs.Innermost.{Same}
 use Rattle.rows.specs.Rows.{one-case, cases-of, conditional, switch-element, eachOf, any-hoisted}
-
--- two steps that do the same from everywhere
-abbrev pub Same : Step → Step → Type 0
-Same m n = (v : Held (Unit {0})) → after v m ≡ after v n
 
 pub same-does : {F : List ℕ} {b r : CodeBuilder} {w w′ : List ℕ} (m n : Step) → Same m n → Does F n b w tt r w′ → Does F m b w tt r w′
 same-does m n e d = record { same = d .same ∙ sym (e _); fine = d .fine; named = d .named }
@@ -58,18 +55,6 @@ module _ (lp : Loop) (f d : ℕ) where
         after-then (after v (eachOf Field lp f d ms)) s (expr m),
         fields-each ms v,
       )
-
-  pub hoisted-each : (ms : Forest Meaning) → Same (gen-those true lp ms) (eachOf Hoisted lp f d ms)
-  unfolding eachOf
-  hoisted-each Forest.none v = refl
-  hoisted-each (more ms m kids) v =
-      rw (after-then v (gen-those true lp ms) (when (hoisted (m .rec) kids) (m .gen-statement lp)), after-then v (eachOf Hoisted lp f d ms) (when (hoisted (m .rec) kids) (m .gen-statement lp)), hoisted-each ms v)
-
-  pub others-each : (ms : Forest Meaning) → Same (gen-those false lp ms) (eachOf Unhoisted lp f d ms)
-  unfolding eachOf
-  others-each Forest.none v = refl
-  others-each (more ms m kids) v =
-      rw (after-then v (gen-those false lp ms) (when (not (hoisted (m .rec) kids)) (m .gen-statement lp)), after-then v (eachOf Unhoisted lp f d ms) (when (not (hoisted (m .rec) kids)) (m .gen-statement lp)), others-each ms v)
 
   -- a row in which no tree is hoisted
   pub hoisted-none : (ms : Forest Meaning) → any-hoisted ms ≡ false → Same (eachOf Hoisted lp f d ms) done

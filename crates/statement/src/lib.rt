@@ -87,6 +87,7 @@ use pcode::Op;
 use pcode::PushValue;
 use rows::Each;
 use rows::Loop;
+use rows::blocks::innermost;
 use rows::ends::ends_of;
 use rows::loop_to;
 use rows::no_loop;
@@ -293,7 +294,8 @@ fn gen_statement(
             }
             StatementKind::Block => {
                 let body = list_at(file, l, kids, 0);
-                let b1 = gen_statements(file, l, body, b, list, scratch, lp);
+                let inner = innermost(file, l, body, lp);
+                let b1 = gen_statements(file, l, inner, b, list, scratch, lp);
                 truncate_stack(list, b1, b.size)
             }
             StatementKind::ForIn(condition) => gen_for_loop(

@@ -1,5 +1,5 @@
 -- The walk can start at an accepted file's root list.
-use Prim.Native.Nat.{ℕ, zero, suc, _-_, _%_, _^_, _≤_, _<_}
+use Prim.Native.Nat.{ℕ, zero, suc, _+_, _-_, _*_, _%_, _^_, _≤_, _<_}
 use mathlib.Core.Path.{_≡_, refl}
 use mathlib.Core.List.{List}
 use mathlib.Core.Bool.{Bool, true, false, cond, not, _&&_}
@@ -154,6 +154,9 @@ module _ (F : List ℕ) (accepted : checkOf F ≡ 0) where
       let b = accepted-short F accepted in
       omega arith
 
+  areas : layoutOf F .records + 20 * n ≤ length F
+  areas = let a = areas-of F (first (hasTrailer F && areasTouch F) _ parts) in omega (arith, a .total, a .records)
+
   root : (leb 1 n && (eqb (rowIn (rowsIn F) (n - 1) .size) n && isList statement (wordsOf (rowIn (rowsIn F) (n - 1))) (childrenOf (rowsIn F) (n - 1)))) ≡ true
   unfolding rootHolds
   root =
@@ -178,7 +181,7 @@ module _ (F : List ℕ) (accepted : checkOf F ≡ 0) where
   whole i h = held-parted (layoutOf F .strings) (rowsIn F) i (all-hold F rules i h)
 
   pub accepted-sound : Sound F
-  accepted-sound = record { short = accepted-short F accepted; few = few; named = named; whole = whole }
+  accepted-sound = record { short = accepted-short F accepted; few = few; areas = areas; named = named; whole = whole }
 
   pub accepted-within : Within F (layoutOf F) (statementsIn F)
   accepted-within =

@@ -10,9 +10,10 @@ use borrow.Author.Tests.{eqb-true, eqb-false, eq-eqb, ne-eqb}
 use Rattle.hir.specs.declared.Record.{Record}
 use Rattle.hir.specs.declared.Record.the-variants as kind
 use Rattle.script_records.specs.declared.layout.Layout.{Layout}
+use Rattle.script_records.specs.declared.layout.Row.{Row}
 use Rattle.script_records.specs.declared.part.Part.{Part}
 use Rattle.script_records.specs.declared.part.Tree.{Tree}
-use Rattle.script_records.specs.Layout.{Words, wordsOf, supported, rowsOf}
+use Rattle.script_records.specs.Layout.{Words, wordsOf, supported, rowsOf, rowIn}
 use Rattle.script_records.specs.Parts.{lastTree}
 use Rattle.decode.specs.Decode.{recordOf, plainOf}
 use Rattle.tree.specs.declared.Element.{Element}
@@ -32,6 +33,10 @@ module _ (F : List ℕ) (l : Layout) (p : Part) where
   pub kind-made : (p .n ≡ 0 → ⊥) → {t : Tree} → t ≡ lastTree (rowsOf F l) p → t .row .kind ≡ kindAt F l p
   unfolding kindAt
   kind-made h e = rw (ne-eqb (p .n) 0 h, e)
+
+  pub last-kind : (p .n ≡ 0 → ⊥) → {row : Row} → row ≡ rowIn (rowsOf F l) (p .end - 1) → row .kind ≡ kindAt F l p
+  unfolding kindAt lastTree
+  last-kind h e = rw (ne-eqb (p .n) 0 h, e)
 
   pub rest-none : p .n ≡ 0 → p ≡ nodeOf F l p .before
   unfolding nodeOf

@@ -13,9 +13,10 @@ use Rattle.hir.specs.declared.ExprKind.the-variants as expr
 use Rattle.hir.specs.declared.Record.{Record}
 use Rattle.hir.specs.declared.Record.the-variants as kind
 use Rattle.script_records.specs.declared.layout.Layout.{Layout}
+use Rattle.script_records.specs.declared.layout.Row.{Row}
 use Rattle.script_records.specs.declared.part.Part.{Part}
 use Rattle.script_records.specs.declared.part.Tree.{Tree}
-use Rattle.script_records.specs.Layout.{wordsOf, layoutOf, stringAt, rowsOf, rowIn, spanAt}
+use Rattle.script_records.specs.Layout.{wordsOf, layoutOf, stringAt, rowsOf, rowIn, HasRow, spanAt}
 use Rattle.script_records.specs.Parts.{lastTree}
 use Rattle.decode.specs.Decode.{recordOf}
 use Rattle.script_records.proofs.Trees.{span-le, span-pos, tree-more}
@@ -68,6 +69,10 @@ live-one (kind.Parameter n r) = omega arith
 live-one kind.Case = omega arith
 live-one kind.Default = omega arith
 live-one kind.Other = omega arith
+
+-- the records before the end of a part that the walk has come to
+pub row-known : (F : List ℕ) (l : Layout) (p : Part) → Within F l p → (i : ℕ) → i < p .end → HasRow F l i
+row-known F l p w i h = rw (w .layout) (omega (arith, w .known), omega (arith, w .known, w .sound .areas))
 
 -- the sizes of a part that the walk has come to
 module _ (F : List ℕ) (l : Layout) (p : Part) (w : Within F l p) (some-left : 0 < p .n) where
@@ -188,6 +193,20 @@ is-node F l p {r} w e = by (eqb (p .n) 0) refl
         let h = eqb-false (p .n) 0 q in
         let m : nodeOf F l p ≡ madeNode (last F p) = rw (w .layout) (sym (node-made F (layoutOf F) p h {t = last F p} refl refl)) in
         rw (e, m) (is-made F l p w (omega arith))
+
+-- the trees before the last, by its size
+module _ (F : List ℕ) (l : Layout) (p : Part) (w : Within F l p) (h : p .n ≡ 0 → ⊥) {row : Row} (is : row ≡ rowIn (rowsOf F l) (p .end - 1)) where
+  same-size : row .size ≡ size F l p w (omega arith)
+  same-size = rw (is, w .layout)
+
+  pub size-most : row .size ≤ p .n
+  size-most = rw same-size (size-inside F l p w (omega arith))
+
+  pub span-is : spanAt (rowsIn F) (p .end) (p .n) ≡ row .size
+  span-is = span-size F l p w (omega arith) ∙ sym same-size
+
+  pub rest-is : {s : ℕ} → row .size ≡ s → {r : Part} → r ≡ record { end = p .end - s; n = p .n - s } → r ≡ nodeOf F l p .before
+  rest-is e q = let i = is-node F l p w refl in q ∙ rw (← e, ← span-is, ← i .end, ← i .n)
 
 -- the trees of a part by its node
 module _ (F : List ℕ) (l : Layout) (p : Part) {r : Node} (i : IsNode F l p r) where

@@ -1,5 +1,5 @@
 -- What the walk through an accepted file can rely on: at each part, and at each node.
-use Prim.Native.Nat.{ℕ, _+_, _-_, _≤_, _<_, min}
+use Prim.Native.Nat.{ℕ, _+_, _-_, _*_, _≤_, _<_, min}
 use mathlib.Core.Path.{_≡_}
 use mathlib.Core.List.{List, []}
 use mathlib.Core.Bool.{Bool, true, cond}
@@ -96,6 +96,7 @@ record-named F i kind.Other = true
 pub record Sound (F : List ℕ) : Type 0 where
   pub short : length F ≤ maxBytes
   pub few : layoutOf F .count < 65536
+  pub areas : layoutOf F .records + 20 * layoutOf F .count ≤ length F
   pub named : (i : ℕ) → i < layoutOf F .count → T (record-named F i (recordOf (wordsOf (rowIn (rowsIn F) i))))
   pub whole : (i : ℕ) → i < layoutOf F .count → parted (rowsIn F) i (rowIn (rowsIn F) i .size - 1) ≡ true
 

@@ -1,5 +1,6 @@
 // The tree of a script file, node by node. A node's children, and those before a sibling, are parts of the records.
 ghost use mathlib.Core.Path.{_≡_};
+ghost use Prim.Native.Nat.{_-_, _≤_};
 ghost use Rattle.lowering.specs.Meaning.{width};
 ghost use Rattle.tree.specs.Count.{Few, withTree};
 ghost use Rattle.tree.specs.Trees.{nodeOf, kindAt, elementOf, trees, countsOf};
@@ -7,6 +8,7 @@ ghost use Rattle.tree.specs.Within.{Within, IsKid, IsList};
 use decode::record_of;
 use hir::Record;
 use script_records::layout::Layout;
+use script_records::layout::known_row;
 use script_records::part::Part;
 use script_records::part::last_tree;
 
@@ -42,26 +44,47 @@ pub fn node_at(file: &[u8], l: Layout, p: Part) -> Node
     }
 }
 
-// The trees before the last.
+// A part without its last s records.
+fn without(p: Part, s: usize) -> Part
+    requires { ⌜ (s ≤ p .n) × (p .n ≤ p .end) ⌝ }
+    ensures { λ r. ⌜ r ≡ record { end = p .end - s; n = p .n - s } ⌝ }
+{
+    Part {
+        end: p.end - s,
+        n: p.n - s,
+    }
+}
+
+// The trees before the last. For sizes of one to three a branch lets the processor go on before the size is read.
 pub fn rest_of(file: &[u8], l: Layout, p: Part) -> Part
+    requires { ⌜ Within (now file) l p ⌝ }
     ensures { λ r. ⌜ r ≡ nodeOf (now (file .entry)) l p .before ⌝ }
 {
     if p.n == 0 {
         return p;
     }
-    let t = last_tree(file, l, p);
-    t.before
+    let row = known_row(file, l, p.end - 1);
+    if row.size == 1 {
+        return without(p, 1);
+    }
+    if row.size == 2 {
+        return without(p, 2);
+    }
+    if row.size == 3 {
+        return without(p, 3);
+    }
+    without(p, row.size as usize)
 }
 
 // The kind of the last tree's record, and that of an absent child where there is none.
 pub fn kind_at(file: &[u8], l: Layout, p: Part) -> u32
+    requires { ⌜ Within (now file) l p ⌝ }
     ensures { λ r. ⌜ r ≡ kindAt (now (file .entry)) l p ⌝ }
 {
     if p.n == 0 {
         return 96;
     }
-    let t = last_tree(file, l, p);
-    let row = t.row;
+    let row = known_row(file, l, p.end - 1);
     row.kind
 }
 
@@ -93,6 +116,7 @@ pub fn element_of(root: Record) -> Element
 
 // Most trees are neither, which their kind tells.
 pub fn element_at(file: &[u8], l: Layout, p: Part) -> Element
+    requires { ⌜ Within (now file) l p ⌝ }
     ensures { λ r. ⌜ r ≡ elementOf (nodeOf (now (file .entry)) l p .root) ⌝ }
 {
     if kind_at(file, l, p) < 100 {

@@ -151,6 +151,7 @@ use Rattle.operators.proofs.plan_of.Reads as plan-of-reads
 use Rattle.operators.proofs.shape.is_present.Reads as is-present-reads
 use Rattle.operators.proofs.shape.literal_of.Reads as literal-of-reads
 use Rattle.operators.proofs.shape.shape_of.Reads as shape-of-reads
+use Rattle.rows.proofs.blocks.innermost.Reads as innermost-reads
 use Rattle.rows.proofs.ends.ends_of.Reads as ends-of-reads
 use Rattle.rows.proofs.loop_to.Reads as loop-to-reads
 use Rattle.rows.proofs.no_loop.Reads as no-loop-reads
@@ -495,7 +496,7 @@ args-gen-expr-requires : (t : ℕ) → args-lts.Need-gen-expr-requires (args-cal
 args-gen-expr-requires t c κs = (omega (arith, c .before .before .before .before .before .before .before .before .before .before .before .before .before .before .before .before .pre .0, c .before .before .before .before .before .before .loop .inv .0 .fewer, c .before .before .before .before .before .before .before .before .before .before .before .push-constants .ensures .fewer), record { within = c .before .before .before .before .before .before .loop .inv .0 .within; fits = omega (arith, c .before .before .before .before .before .before .loop .inv .0 .fewer, c .before .before .before .before .before .before .before .before .before .before .before .push-constants .ensures .fewer, (c .before .before .before .before .before .before .before .before .before .before .before .before .before .before .before .before .pre .1 .0) .fits, c .before .before .before .before .before .before .loop .inv .1); fine = c .before .before .before .before .before .before .loop .inv .0 .fine; named = c .before .before .before .before .before .before .loop .inv .0 .named (c .before .before .before .before .before .before .before .before .before .before .before .push-constants .ensures .named ((c .before .before .before .before .before .before .before .before .before .before .before .before .before .before .before .before .pre .1 .0) .named)) })
 
 args-rest-of-requires : (t : ℕ) → args-lts.Need-rest-of-requires (args-calls t) (args-at t) args.Post args-Inv-loop args-μ-loop
-args-rest-of-requires t c κs = tt
+args-rest-of-requires t c κs = c .before .before .before .before .before .before .before .before .before .before .before .loop .inv .0 .within
 
 args-loop-less : (t : ℕ) → args-lts.Need-loop-less (args-calls t) (args-at t) args.Post args-Inv-loop args-μ-loop
 args-loop-less t c = args-less (c .before .before .before .before .before .before .before .before .before .before .before .before .loop .inv .0) (c .before .before .before .before .before .before .before .before .before .before .if1 .taken) (c .rest-of .ensures)
@@ -634,7 +635,7 @@ each-one-requires : (t : ℕ) → each-lts.Need-one-requires (each-calls t) (eac
 each-one-requires t c κs = (omega (arith, pop-below (c .before .before .before .before .before .before .before .before .before .before .before .before .before .before .before .before .before .args .what) (loopOf (c .before .before .before .before .before .before .before .before .before .before .before .before .before .before .before .before .before .args .lp)) (c .before .before .before .before .before .before .before .before .before .before .before .before .before .before .before .before .before .args .first) (c .before .before .before .before .before .before .before .before .before .before .before .before .before .before .before .before .before .args .default) (c .before .before .before .before .before .before .loop .inv (c .before .before .before .before .before .before .before .before .before .before .before .before .before .before .before .before .before .args .p .end) (omega (arith, (c .before .before .before .before .before .before .before .before .before .before .before .before .before .before .before .before .before .pre .1 .0) .fits, (c .before .before .before .before .before .before .before .before .before .before .before .before .before .before .before .before .before .pre .1 .0) .within .inside, c .before .before .before .before .before .before .before .before .before .ends-of .kept .1 .1 .1 .0)) (c .before .before .before .before .before .before .before .before .before .ends-of .ensures)) (c .before .before .before .before .before .loop-test .taken) (c .before .before .before .before .before .before .before .before .before .before .before .before .before .before .before .before .before .args .p .n) (omega (arith, (c .before .before .before .before .before .before .before .before .before .before .before .before .before .before .before .before .before .pre .1 .0) .within .inside)), c .before .before .before .before .before .before .before .before .before .before .before .before .before .before .before .before .before .pre .0), (record { within = (pop-top (c .before .before .before .before .before .before .before .before .before .before .before .before .before .before .before .before .before .args .what) (loopOf (c .before .before .before .before .before .before .before .before .before .before .before .before .before .before .before .before .before .args .lp)) (c .before .before .before .before .before .before .before .before .before .before .before .before .before .before .before .before .before .args .first) (c .before .before .before .before .before .before .before .before .before .before .before .before .before .before .before .before .before .args .default) (c .before .before .before .before .before .before .loop .inv (c .before .before .before .before .before .before .before .before .before .before .before .before .before .before .before .before .before .args .p .end) (omega (arith, (c .before .before .before .before .before .before .before .before .before .before .before .before .before .before .before .before .before .pre .1 .0) .fits, (c .before .before .before .before .before .before .before .before .before .before .before .before .before .before .before .before .before .pre .1 .0) .within .inside, c .before .before .before .before .before .before .before .before .before .ends-of .kept .1 .1 .1 .0)) (c .before .before .before .before .before .before .before .before .before .ends-of .ensures)) (c .before .before .before .before .before .loop-test .taken)) .within; fits = simp (length-take, length-drop) (omega (arith, pop-fits (c .before .before .before .before .before .before .before .before .before .before .before .before .before .before .before .before .before .args .what) (loopOf (c .before .before .before .before .before .before .before .before .before .before .before .before .before .before .before .before .before .args .lp)) (c .before .before .before .before .before .before .before .before .before .before .before .before .before .before .before .before .before .args .first) (c .before .before .before .before .before .before .before .before .before .before .before .before .before .before .before .before .before .args .default) (c .before .before .before .before .before .before .loop .inv (c .before .before .before .before .before .before .before .before .before .before .before .before .before .before .before .before .before .args .p .end) (omega (arith, (c .before .before .before .before .before .before .before .before .before .before .before .before .before .before .before .before .before .pre .1 .0) .fits, (c .before .before .before .before .before .before .before .before .before .before .before .before .before .before .before .before .before .pre .1 .0) .within .inside, c .before .before .before .before .before .before .before .before .before .ends-of .kept .1 .1 .1 .0)) (c .before .before .before .before .before .before .before .before .before .ends-of .ensures)) (c .before .before .before .before .before .loop-test .taken))); fine = (c .before .before .before .before .before .before .loop .inv (c .before .before .before .before .before .before .before .before .before .before .before .before .before .before .before .before .before .args .p .end) (omega (arith, (c .before .before .before .before .before .before .before .before .before .before .before .before .before .before .before .before .before .pre .1 .0) .fits, (c .before .before .before .before .before .before .before .before .before .before .before .before .before .before .before .before .before .pre .1 .0) .within .inside, c .before .before .before .before .before .before .before .before .before .ends-of .kept .1 .1 .1 .0)) (c .before .before .before .before .before .before .before .before .before .ends-of .ensures)) .fine; named = (c .before .before .before .before .before .before .loop .inv (c .before .before .before .before .before .before .before .before .before .before .before .before .before .before .before .before .before .args .p .end) (omega (arith, (c .before .before .before .before .before .before .before .before .before .before .before .before .before .before .before .before .before .pre .1 .0) .fits, (c .before .before .before .before .before .before .before .before .before .before .before .before .before .before .before .before .before .pre .1 .0) .within .inside, c .before .before .before .before .before .before .before .before .before .ends-of .kept .1 .1 .1 .0)) (c .before .before .before .before .before .before .before .before .before .ends-of .ensures)) .named ((c .before .before .before .before .before .before .before .before .before .before .before .before .before .before .before .before .before .pre .1 .0) .named) }, omega (arith, pop-few (c .before .before .before .before .before .before .before .before .before .before .before .before .before .before .before .before .before .args .what) (loopOf (c .before .before .before .before .before .before .before .before .before .before .before .before .before .before .before .before .before .args .lp)) (c .before .before .before .before .before .before .before .before .before .before .before .before .before .before .before .before .before .args .first) (c .before .before .before .before .before .before .before .before .before .before .before .before .before .before .before .before .before .args .default) (c .before .before .before .before .before .before .loop .inv (c .before .before .before .before .before .before .before .before .before .before .before .before .before .before .before .before .before .args .p .end) (omega (arith, (c .before .before .before .before .before .before .before .before .before .before .before .before .before .before .before .before .before .pre .1 .0) .fits, (c .before .before .before .before .before .before .before .before .before .before .before .before .before .before .before .before .before .pre .1 .0) .within .inside, c .before .before .before .before .before .before .before .before .before .ends-of .kept .1 .1 .1 .0)) (c .before .before .before .before .before .before .before .before .before .ends-of .ensures)) (c .before .before .before .before .before .loop-test .taken) (c .before .before .before .before .before .before .before .before .before .before .before .before .before .before .before .before .before .args .p .n) (omega (arith, (c .before .before .before .before .before .before .before .before .before .before .before .before .before .before .before .before .before .pre .1 .0) .within .inside)) .0, c .before .before .before .before .before .before .before .before .before .before .before .before .before .before .before .before .before .pre .1 .1)))
 
 each-element-at-requires : (t : ℕ) → each-lts.Need-element-at-requires (each-calls t) (each-at t) each.Post each-Inv-loop each-μ-loop
-each-element-at-requires t c κs = tt
+each-element-at-requires t c κs = (pop-top (c .before .before .before .before .before .before .before .before .before .before .before .before .before .before .before .before .before .before .before .before .before .before .args .what) (loopOf (c .before .before .before .before .before .before .before .before .before .before .before .before .before .before .before .before .before .before .before .before .before .before .args .lp)) (c .before .before .before .before .before .before .before .before .before .before .before .before .before .before .before .before .before .before .before .before .before .before .args .first) (c .before .before .before .before .before .before .before .before .before .before .before .before .before .before .before .before .before .before .before .before .before .before .args .default) (c .before .before .before .before .before .before .before .before .before .before .before .loop .inv (c .before .before .before .before .before .before .before .before .before .before .before .before .before .before .before .before .before .before .before .before .before .before .args .p .end) (omega (arith, (c .before .before .before .before .before .before .before .before .before .before .before .before .before .before .before .before .before .before .before .before .before .before .pre .1 .0) .fits, (c .before .before .before .before .before .before .before .before .before .before .before .before .before .before .before .before .before .before .before .before .before .before .pre .1 .0) .within .inside, c .before .before .before .before .before .before .before .before .before .before .before .before .before .before .ends-of .kept .1 .1 .1 .0)) (c .before .before .before .before .before .before .before .before .before .before .before .before .before .before .ends-of .ensures)) (c .before .before .before .before .before .before .before .before .before .before .loop-test .taken)) .within
 
 each-is-labelled-requires : (t : ℕ) → each-lts.Need-is-labelled-requires (each-calls t) (each-at t) each.Post each-Inv-loop each-μ-loop
 each-is-labelled-requires t c κs = tt
@@ -1663,7 +1664,7 @@ gen-if-returns-2 : (t : ℕ) → gen-if-lts.Need-returns-2 (gen-if-calls t) (gen
 gen-if-returns-2 t c = if-one-arm (c .before .before .before .before .before .before .before .before .before .before .before .before .before .before .before .before .before .before .before .before .before .before .before .before .before .before .before .before .before .before .before .before .before .before .before .args .l) (c .before .before .before .before .before .before .before .before .before .before .before .before .before .before .before .before .before .before .before .before .before .before .before .before .before .before .before .before .before .before .before .before .before .before .before .args .p) (loopOf (c .before .before .before .before .before .before .before .before .before .before .before .before .before .before .before .before .before .before .before .before .before .before .before .before .before .before .before .before .before .before .before .before .before .before .before .args .lp)) (c .before .before .before .before .before .before .before .before .before .before .before .before .before .before .before .before .before .before .before .before .before .before .before .before .before .before .before .before .before .before .before .kid-at .ensures) (c .before .before .before .before .before .before .before .before .before .before .before .before .before .before .before .before .before .before .before .before .before .before .before .before .before .before .before .before .before .before .kid-at2 .ensures) (ap present (rec-is (is-node (now (c .before .before .before .before .before .before .before .before .before .before .before .before .before .before .before .before .before .before .before .before .before .before .before .before .before .before .before .before .before .before .before .before .before .before .before .args .file)) (c .before .before .before .before .before .before .before .before .before .before .before .before .before .before .before .before .before .before .before .before .before .before .before .before .before .before .before .before .before .before .before .before .before .before .before .args .l) (c .before .before .before .before .before .before .before .before .before .before .before .before .before .before .before .before .before .before .before .before .before .before .before .before .before .before .before .before .before .before .before .before .before .before .before .args .p) ((c .before .before .before .before .before .before .before .before .before .before .before .before .before .before .before .before .before .before .before .before .before .before .before .before .before .before .before .before .before .before .before .before .before .before .before .pre .1) .within) (c .before .before .before .before .before .before .before .before .before .before .before .before .before .before .before .before .before .before .before .before .before .before .before .before .before .before .before .before .before .node-at .ensures))) ∙ sym (c .before .before .before .before .before .before .before .before .before .before .before .before .before .before .before .before .is-present .ensures (now (c .before .before .before .before .before .before .before .before .before .before .before .before .before .before .before .before .before .before .before .before .before .before .before .before .before .before .before .before .before .before .before .before .before .before .before .args .file))) ∙ c .before .before .before .before .before .before .before .before .before .before .before .before .before .before .before .if1 .left) (c .before .before .before .before .before .before .before .before .before .before .before .before .before .before .before .before .before .before .before .before .before .before .before .before .before .before .before .before .create-label .ensures (now (c .before .before .before .before .before .before .before .before .before .before .before .before .before .before .before .before .before .before .before .before .before .before .before .before .before .before .before .before .before .before .before .before .before .before .before .args .file)) _ ((c .before .before .before .before .before .before .before .before .before .before .before .before .before .before .before .before .before .before .before .before .before .before .before .before .before .before .before .before .before .before .before .before .before .before .before .pre .1) .fine)) (c .before .before .before .before .before .before .before .before .before .before .before .before .before .before .before .before .before .before .before .before .before .before .before .before .before .gen-expr .ensures) (c .before .before .before .before .before .before .before .before .before .before .before .before .before .before .before .before .before .before .before .action .ensures (now (c .before .before .before .before .before .before .before .before .before .before .before .before .before .before .before .before .before .before .before .before .before .before .before .before .before .before .before .before .before .before .before .before .before .before .before .args .file))) (c .before .before .before .before .before .before .before .before .before .before .before .before .before .branch2 .ensures (now (c .before .before .before .before .before .before .before .before .before .before .before .before .before .before .before .before .before .before .before .before .before .before .before .before .before .before .before .before .before .before .before .before .before .before .before .args .file))) (c .before .before .before .before .before .before .before .before .gen-statement3 .ensures) (c .before .before .mark-label3 .ensures (now (c .before .before .before .before .before .before .before .before .before .before .before .before .before .before .before .before .before .before .before .before .before .before .before .before .before .before .before .before .before .before .before .before .before .before .before .args .file)))
 
 abbrev gen-statement-calls : ℕ → gen-statement-lts.Claims
-gen-statement-calls t = (node-at-reads.Asked, node-at-reads.Learnt, push-string-reads.Asked, push-string-reads.Learnt, is-present-reads.Asked, is-present-reads.Learnt, gen-expr-below t, gen-expr.Post, action-reads.Asked, action-reads.Learnt, exit-below t, exit.Post, truncate-stack-reads.Asked, truncate-stack-reads.Learnt, list-at-reads.Asked, list-at-reads.Learnt, gen-statements-below t, gen-statements.Post, gen-for-loop-below t, gen-for-loop.Post, gen-while-loop-below t, gen-while-loop.Post, gen-if-below t, gen-if.Post, jump-to-reads.Asked, jump-to-reads.Learnt, gen-switch-below t, gen-switch.Post)
+gen-statement-calls t = (node-at-reads.Asked, node-at-reads.Learnt, push-string-reads.Asked, push-string-reads.Learnt, is-present-reads.Asked, is-present-reads.Learnt, gen-expr-below t, gen-expr.Post, action-reads.Asked, action-reads.Learnt, exit-below t, exit.Post, truncate-stack-reads.Asked, truncate-stack-reads.Learnt, list-at-reads.Asked, list-at-reads.Learnt, innermost-reads.Asked, innermost-reads.Learnt, gen-statements-below t, gen-statements.Post, gen-for-loop-below t, gen-for-loop.Post, gen-while-loop-below t, gen-while-loop.Post, gen-if-below t, gen-if.Post, jump-to-reads.Asked, jump-to-reads.Learnt, gen-switch-below t, gen-switch.Post)
 
 gen-statement-returns : (t : ℕ) → gen-statement-lts.Need-returns (gen-statement-calls t) (gen-statement-at t) gen-statement.Post
 gen-statement-returns t c = stays (c .if1 .taken) ((c .before .before .before .before .before .pre .1) .fine)
@@ -1731,8 +1732,11 @@ gen-statement-enum-told-4 t c = search needs
 gen-statement-list-at-requires : (t : ℕ) → gen-statement-lts.Need-list-at-requires (gen-statement-calls t) (gen-statement-at t) gen-statement.Post
 gen-statement-list-at-requires t c κs = ((is-node (now (c .before .before .before .before .before .before .before .before .before .before .before .before .args .file)) (c .before .before .before .before .before .before .before .before .before .before .before .before .args .l) (c .before .before .before .before .before .before .before .before .before .before .before .before .args .p) ((c .before .before .before .before .before .before .before .before .before .before .before .before .pre .1) .within) (c .before .before .before .before .before .before .node-at .ensures)) .kids-within)
 
+gen-statement-innermost-requires : (t : ℕ) → gen-statement-lts.Need-innermost-requires (gen-statement-calls t) (gen-statement-at t) gen-statement.Post
+gen-statement-innermost-requires t c κs = c .list-at .ensures .within
+
 gen-statement-gen-statements-requires : (t : ℕ) → gen-statement-lts.Need-gen-statements-requires (gen-statement-calls t) (gen-statement-at t) gen-statement.Post
-gen-statement-gen-statements-requires t c κs = (omega (arith, c .before .before .before .before .before .before .before .before .before .before .before .before .before .before .before .pre .0, (c .before .before .before .before .before .before .before .before .before .before .before .before .before .before .before .pre .1) .fits, (is-node (now (c .before .before .before .before .before .before .before .before .before .before .before .before .before .before .before .args .file)) (c .before .before .before .before .before .before .before .before .before .before .before .before .before .before .before .args .l) (c .before .before .before .before .before .before .before .before .before .before .before .before .before .before .before .args .p) ((c .before .before .before .before .before .before .before .before .before .before .before .before .before .before .before .pre .1) .within) (c .before .before .before .before .before .before .before .before .before .node-at .ensures)) .apart, (is-node (now (c .before .before .before .before .before .before .before .before .before .before .before .before .before .before .before .args .file)) (c .before .before .before .before .before .before .before .before .before .before .before .before .before .before .before .args .l) (c .before .before .before .before .before .before .before .before .before .before .before .before .before .before .before .args .p) ((c .before .before .before .before .before .before .before .before .before .before .before .before .before .before .before .pre .1) .within) (c .before .before .before .before .before .before .before .before .before .node-at .ensures)) .real, ap live (c .before .before .before .before .before .before .root .given .1), c .before .before .list-at .ensures .fewer), record { within = (c .before .before .list-at .ensures .within); fits = omega (arith, c .before .before .before .before .before .before .before .before .before .before .before .before .before .before .before .pre .0, (c .before .before .before .before .before .before .before .before .before .before .before .before .before .before .before .pre .1) .fits, (is-node (now (c .before .before .before .before .before .before .before .before .before .before .before .before .before .before .before .args .file)) (c .before .before .before .before .before .before .before .before .before .before .before .before .before .before .before .args .l) (c .before .before .before .before .before .before .before .before .before .before .before .before .before .before .before .args .p) ((c .before .before .before .before .before .before .before .before .before .before .before .before .before .before .before .pre .1) .within) (c .before .before .before .before .before .before .before .before .before .node-at .ensures)) .apart, (is-node (now (c .before .before .before .before .before .before .before .before .before .before .before .before .before .before .before .args .file)) (c .before .before .before .before .before .before .before .before .before .before .before .before .before .before .before .args .l) (c .before .before .before .before .before .before .before .before .before .before .before .before .before .before .before .args .p) ((c .before .before .before .before .before .before .before .before .before .before .before .before .before .before .before .pre .1) .within) (c .before .before .before .before .before .before .before .before .before .node-at .ensures)) .real, ap live (c .before .before .before .before .before .before .root .given .1), c .before .before .list-at .ensures .fewer); fine = ((c .before .before .before .before .before .before .before .before .before .before .before .before .before .before .before .pre .1) .fine); named = ((c .before .before .before .before .before .before .before .before .before .before .before .before .before .before .before .pre .1) .named) })
+gen-statement-gen-statements-requires t c κs = (omega (arith, c .before .before .before .before .before .before .before .before .before .before .before .before .before .before .before .before .pre .0, (c .before .before .before .before .before .before .before .before .before .before .before .before .before .before .before .before .pre .1) .fits, (is-node (now (c .before .before .before .before .before .before .before .before .before .before .before .before .before .before .before .before .args .file)) (c .before .before .before .before .before .before .before .before .before .before .before .before .before .before .before .before .args .l) (c .before .before .before .before .before .before .before .before .before .before .before .before .before .before .before .before .args .p) ((c .before .before .before .before .before .before .before .before .before .before .before .before .before .before .before .before .pre .1) .within) (c .before .before .before .before .before .before .before .before .before .before .node-at .ensures)) .apart, (is-node (now (c .before .before .before .before .before .before .before .before .before .before .before .before .before .before .before .before .args .file)) (c .before .before .before .before .before .before .before .before .before .before .before .before .before .before .before .before .args .l) (c .before .before .before .before .before .before .before .before .before .before .before .before .before .before .before .before .args .p) ((c .before .before .before .before .before .before .before .before .before .before .before .before .before .before .before .before .pre .1) .within) (c .before .before .before .before .before .before .before .before .before .before .node-at .ensures)) .real, ap live (c .before .before .before .before .before .before .before .root .given .1), c .before .before .before .list-at .ensures .fewer, c .before .before .innermost .ensures .fewer), record { within = (c .before .before .innermost .ensures .within); fits = omega (arith, c .before .before .before .before .before .before .before .before .before .before .before .before .before .before .before .before .pre .0, (c .before .before .before .before .before .before .before .before .before .before .before .before .before .before .before .before .pre .1) .fits, (is-node (now (c .before .before .before .before .before .before .before .before .before .before .before .before .before .before .before .before .args .file)) (c .before .before .before .before .before .before .before .before .before .before .before .before .before .before .before .before .args .l) (c .before .before .before .before .before .before .before .before .before .before .before .before .before .before .before .before .args .p) ((c .before .before .before .before .before .before .before .before .before .before .before .before .before .before .before .before .pre .1) .within) (c .before .before .before .before .before .before .before .before .before .before .node-at .ensures)) .apart, (is-node (now (c .before .before .before .before .before .before .before .before .before .before .before .before .before .before .before .before .args .file)) (c .before .before .before .before .before .before .before .before .before .before .before .before .before .before .before .before .args .l) (c .before .before .before .before .before .before .before .before .before .before .before .before .before .before .before .before .args .p) ((c .before .before .before .before .before .before .before .before .before .before .before .before .before .before .before .before .pre .1) .within) (c .before .before .before .before .before .before .before .before .before .before .node-at .ensures)) .real, ap live (c .before .before .before .before .before .before .before .root .given .1), c .before .before .before .list-at .ensures .fewer, c .before .before .innermost .ensures .fewer); fine = ((c .before .before .before .before .before .before .before .before .before .before .before .before .before .before .before .before .pre .1) .fine); named = ((c .before .before .before .before .before .before .before .before .before .before .before .before .before .before .before .before .pre .1) .named) })
 
 gen-statement-truncate-stack-requires-2 : (t : ℕ) → gen-statement-lts.Need-truncate-stack-requires-2 (gen-statement-calls t) (gen-statement-at t) gen-statement.Post
 gen-statement-truncate-stack-requires-2 t c κs = ((c .before .before .before .before .before .gen-statements .ensures) .fine)
@@ -1837,7 +1841,7 @@ gen-statement-same-length-11 : (t : ℕ) → gen-statement-lts.Need-same-length-
 gen-statement-same-length-11 t c = c .before .before .before .before .before .before .before .before .gen-statements .kept .1 .1 .1 .1 .1 .0
 
 gen-statement-returns-7 : (t : ℕ) → gen-statement-lts.Need-returns-7 (gen-statement-calls t) (gen-statement-at t) gen-statement.Post
-gen-statement-returns-7 t c = rw (statement-at (is-node (now (c .before .before .before .before .before .before .before .before .before .before .before .before .before .before .before .before .before .before .before .before .before .before .before .before .args .file)) (c .before .before .before .before .before .before .before .before .before .before .before .before .before .before .before .before .before .before .before .before .before .before .before .before .args .l) (c .before .before .before .before .before .before .before .before .before .before .before .before .before .before .before .before .before .before .before .before .before .before .before .before .args .p) ((c .before .before .before .before .before .before .before .before .before .before .before .before .before .before .before .before .before .before .before .before .before .before .before .before .pre .1) .within) (c .before .before .before .before .before .before .before .before .before .before .before .before .before .before .before .before .before .before .node-at .ensures)) (loopOf (c .before .before .before .before .before .before .before .before .before .before .before .before .before .before .before .before .before .before .before .before .before .before .before .before .args .lp)) (c .before .before .before .before .before .before .before .before .before .before .before .before .before .before .before .root .given .1), (c .before .before .before .before .before .before .before .before .before .before .before .before .enum-told4 .given .1)) (block-arm (c .before .before .before .before .before .before .before .before .before .before .before .before .before .before .before .before .before .before .before .before .before .before .before .before .args .l) (c .before .before .before .before .before .before .before .before .before .before .before .before .before .before .before .before .before .before .node-at .result .children) (loopOf (c .before .before .before .before .before .before .before .before .before .before .before .before .before .before .before .before .before .before .before .before .before .before .before .before .args .lp)) (c .before .before .before .before .before .before .before .before .before .before .before .list-at .ensures) (c .before .before .before .before .before .before .before .before .gen-statements .ensures) (c .before .before .truncate-stack2 .ensures (now (c .before .before .before .before .before .before .before .before .before .before .before .before .before .before .before .before .before .before .before .before .before .before .before .before .args .file))))
+gen-statement-returns-7 t c = rw (statement-at (is-node (now (c .before .before .before .before .before .before .before .before .before .before .before .before .before .before .before .before .before .before .before .before .before .before .before .before .before .args .file)) (c .before .before .before .before .before .before .before .before .before .before .before .before .before .before .before .before .before .before .before .before .before .before .before .before .before .args .l) (c .before .before .before .before .before .before .before .before .before .before .before .before .before .before .before .before .before .before .before .before .before .before .before .before .before .args .p) ((c .before .before .before .before .before .before .before .before .before .before .before .before .before .before .before .before .before .before .before .before .before .before .before .before .before .pre .1) .within) (c .before .before .before .before .before .before .before .before .before .before .before .before .before .before .before .before .before .before .before .node-at .ensures)) (loopOf (c .before .before .before .before .before .before .before .before .before .before .before .before .before .before .before .before .before .before .before .before .before .before .before .before .before .args .lp)) (c .before .before .before .before .before .before .before .before .before .before .before .before .before .before .before .before .root .given .1), (c .before .before .before .before .before .before .before .before .before .before .before .before .before .enum-told4 .given .1)) (block-arm (c .before .before .before .before .before .before .before .before .before .before .before .before .before .before .before .before .before .before .before .before .before .before .before .before .before .args .l) (c .before .before .before .before .before .before .before .before .before .before .before .before .before .before .before .before .before .before .before .node-at .result .children) (loopOf (c .before .before .before .before .before .before .before .before .before .before .before .before .before .before .before .before .before .before .before .before .before .before .before .before .before .args .lp)) (c .before .before .before .before .before .before .before .before .before .before .before .before .list-at .ensures) (c .before .before .before .before .before .before .before .before .before .before .before .innermost .ensures) (c .before .before .before .before .before .before .before .before .gen-statements .ensures) (c .before .before .truncate-stack2 .ensures (now (c .before .before .before .before .before .before .before .before .before .before .before .before .before .before .before .before .before .before .before .before .before .before .before .before .before .args .file))))
 
 gen-statement-same-length-12 : (t : ℕ) → gen-statement-lts.Need-same-length-12 (gen-statement-calls t) (gen-statement-at t) gen-statement.Post
 gen-statement-same-length-12 t c = c .before .before .before .before .gen-for-loop .kept .1 .1 .1 .1 .0
@@ -3071,6 +3075,7 @@ pub +adjust+args+drag+each+ends+exit+for-expr+gen-binary-op+gen-call+gen-expr+ge
     (gen-statement-truncate-stack-requires t)
     (gen-statement-enum-told-4 t)
     (gen-statement-list-at-requires t)
+    (gen-statement-innermost-requires t)
     (gen-statement-gen-statements-requires t)
     (gen-statement-truncate-stack-requires-2 t)
     (gen-statement-enum-known-kind-2 t)

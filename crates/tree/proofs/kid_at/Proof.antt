@@ -16,7 +16,7 @@ loop-holds : tie.Need-loop-holds Inv-loop μ-loop
 loop-holds c = kid-start _ _ _ _ (c .before .pre)
 
 rest-of-requires : tie.Need-rest-of-requires Inv-loop μ-loop
-rest-of-requires c κs = tt
+rest-of-requires c κs = c .before .loop .inv .within
 
 add-i : tie.Need-add-i Inv-loop μ-loop
 add-i c = search needs

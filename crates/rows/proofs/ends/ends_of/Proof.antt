@@ -1,80 +1,157 @@
 -- `ends_of` meets its contract.
+use mathlib.Core.Path.{refl}
 use borrow.Author.Needs.{needs}
 use native.Mathlib.Omega.{arith}
-use Rattle.rows.proofs.Kept.{EndsInv, ends-start, ends-inside, ends-few, ends-less, ends-again, ends-done}
+use Rattle.rows.specs.declared.Each.the-variants.{Expr, Discarded, Field, Statement, Hoisted, Unhoisted, Conditional, Element}
+use Rattle.rows.specs.Rows.{loopOf}
+use Rattle.rows.proofs.Passed.{expr-out, discarded-out, field-out, conditional-out, passed-out}
+use Rattle.rows.proofs.Kept.{nowhere, kept-few}
 use Rattle.rows.proofs.ends.ends_of.Statement.{statement}
 use Rattle.rows.proofs.ends.ends_of.Tie as tie
 
-abbrev Inv-loop : tie.InvT-loop
-Inv-loop file l scratch₀ breaks continues statements values left₀ top₀ scratch left top = EndsInv file l scratch₀ breaks continues statements values left₀ scratch left top
+is-nowhere-requires : tie.Need-is-nowhere-requires
+is-nowhere-requires c κs = search needs
 
-abbrev μ-loop : tie.MeasureT-loop
-μ-loop file l scratch₀ breaks continues statements values left₀ top₀ scratch left top = left .n
+is-nowhere-requires-2 : tie.Need-is-nowhere-requires-2
+is-nowhere-requires-2 c κs = search needs
 
-is-idle-requires : tie.Need-is-idle-requires Inv-loop μ-loop
-is-idle-requires c κs = search needs
+enum-told : tie.Need-enum-told
+enum-told c = search needs
 
-is-idle-requires-2 : tie.Need-is-idle-requires-2 Inv-loop μ-loop
-is-idle-requires-2 c κs = search needs
+ends-by-kind-requires : tie.Need-ends-by-kind-requires
+ends-by-kind-requires c κs = c .before .before .before .before .before .before .before .pre
 
-of-statements-requires : tie.Need-of-statements-requires Inv-loop μ-loop
-of-statements-requires c κs = search needs
+enum-told-2 : tie.Need-enum-told-2
+enum-told-2 c = search needs
 
-of-values-requires : tie.Need-of-values-requires Inv-loop μ-loop
-of-values-requires c κs = search needs
+ends-by-kind-requires-2 : tie.Need-ends-by-kind-requires-2
+ends-by-kind-requires-2 c κs = c .before .before .before .before .before .before .before .pre
 
-loop-holds : tie.Need-loop-holds Inv-loop μ-loop
-loop-holds c = search (needs, ends-start)
+enum-told-3 : tie.Need-enum-told-3
+enum-told-3 c = search needs
 
-mul-scratch : tie.Need-mul-scratch Inv-loop μ-loop
-mul-scratch c = search needs
+ends-by-kind-requires-3 : tie.Need-ends-by-kind-requires-3
+ends-by-kind-requires-3 c κs = c .before .before .before .before .before .before .before .pre
 
-slice-write-scratch : tie.Need-slice-write-scratch Inv-loop μ-loop
-slice-write-scratch c = search (needs, ends-inside)
+enum-told-4 : tie.Need-enum-told-4
+enum-told-4 c = search needs
 
-kept-requires : tie.Need-kept-requires Inv-loop μ-loop
-kept-requires c κs = c .before .before .loop .inv .within
+ends-of-statements-requires : tie.Need-ends-of-statements-requires
+ends-of-statements-requires c κs = c .before .before .before .before .before .before .before .pre
 
-add-top : tie.Need-add-top Inv-loop μ-loop
-add-top c = omega (arith, ends-few (c .before .before .before .loop .inv) (c .before .if1 .taken) (c .kept .ensures))
+enum-told-5 : tie.Need-enum-told-5
+enum-told-5 c = search needs
 
-rest-of-requires : tie.Need-rest-of-requires Inv-loop μ-loop
-rest-of-requires c κs = search needs
+ends-of-statements-requires-2 : tie.Need-ends-of-statements-requires-2
+ends-of-statements-requires-2 c κs = c .before .before .before .before .before .before .before .pre
 
-loop-less : tie.Need-loop-less Inv-loop μ-loop
-loop-less c = search (needs, ends-less)
+enum-told-6 : tie.Need-enum-told-6
+enum-told-6 c = search needs
 
-loop-again : tie.Need-loop-again Inv-loop μ-loop
-loop-again c = search (needs, ends-again)
+ends-of-statements-requires-3 : tie.Need-ends-of-statements-requires-3
+ends-of-statements-requires-3 c κs = c .before .before .before .before .before .before .before .pre
 
-same-length : tie.Need-same-length Inv-loop μ-loop
+enum-told-7 : tie.Need-enum-told-7
+enum-told-7 c = search needs
+
+ends-by-kind-requires-4 : tie.Need-ends-by-kind-requires-4
+ends-by-kind-requires-4 c κs = c .before .before .before .before .before .before .before .pre
+
+enum-told-8 : tie.Need-enum-told-8
+enum-told-8 c = search needs
+
+ends-of-statements-requires-4 : tie.Need-ends-of-statements-requires-4
+ends-of-statements-requires-4 c κs = c .before .before .before .before .before .before .before .pre
+
+from-label-requires : tie.Need-from-label-requires
+from-label-requires c κs =
+    let k = c .before .before .before .ends-of-statements4 .ensures Element _ (λ q w z h. passed-out _ _ q w z _ _ _ h Element refl _ (nowhere _ (c .before .before .before .before .before .before .before .before .is-nowhere .ensures)) (nowhere _ (c .before .before .before .before .before .before .before .is-nowhere2 .ensures))) in
+    (c .before .before .before .before .before .before .before .before .before .before .before .pre .0, (omega (arith, kept-few _ _ _ _ _ _ _ _ k, c .before .before .before .before .before .before .before .before .before .before .before .pre .0 .inside, c .before .before .before .before .before .before .before .before .before .before .before .pre .1), k))
+
+same-length : tie.Need-same-length
 same-length c = search needs
 
-returns : tie.Need-returns Inv-loop μ-loop
-returns c = ends-done (c .before .before .loop .inv) (c .if1 .left) _ _ (record {
-  breaks-is = c .before .before .before .before .before .before .is-idle .ensures;
-  continues-is = c .before .before .before .before .before .is-idle2 .ensures;
-  statements-is = c .before .before .before .before .of-statements .ensures;
-  values-is = c .before .before .before .of-values .ensures;
-})
+returns : tie.Need-returns
+returns c = rw (c .before .before .before .before .enum-told .given .1) (c .before .before .ends-by-kind .ensures Expr _ (λ q w z h. expr-out _ _ q w h (loopOf (c .before .before .before .before .before .before .before .before .before .before .args .lp))))
+
+same-length-2 : tie.Need-same-length-2
+same-length-2 c = search needs
+
+returns-2 : tie.Need-returns-2
+returns-2 c = rw (c .before .before .before .before .enum-told2 .given .1) (c .before .before .ends-by-kind2 .ensures Discarded _ (λ q w z h. discarded-out _ _ q w h (loopOf (c .before .before .before .before .before .before .before .before .before .before .args .lp))))
+
+same-length-3 : tie.Need-same-length-3
+same-length-3 c = search needs
+
+returns-3 : tie.Need-returns-3
+returns-3 c = rw (c .before .before .before .before .enum-told3 .given .1) (c .before .before .ends-by-kind3 .ensures Field _ (λ q w z h. field-out _ _ q w h (loopOf (c .before .before .before .before .before .before .before .before .before .before .args .lp))))
+
+same-length-4 : tie.Need-same-length-4
+same-length-4 c = search needs
+
+returns-4 : tie.Need-returns-4
+returns-4 c = rw (c .before .before .before .before .enum-told4 .given .1) (c .before .before .ends-of-statements .ensures Statement _ (λ q w z h. passed-out _ _ q w z _ _ _ h Statement refl _ (nowhere _ (c .before .before .before .before .before .before .before .is-nowhere .ensures)) (nowhere _ (c .before .before .before .before .before .before .is-nowhere2 .ensures))))
+
+same-length-5 : tie.Need-same-length-5
+same-length-5 c = search needs
+
+returns-5 : tie.Need-returns-5
+returns-5 c = rw (c .before .before .before .before .enum-told5 .given .1) (c .before .before .ends-of-statements2 .ensures Hoisted _ (λ q w z h. passed-out _ _ q w z _ _ _ h Hoisted refl _ (nowhere _ (c .before .before .before .before .before .before .before .is-nowhere .ensures)) (nowhere _ (c .before .before .before .before .before .before .is-nowhere2 .ensures))))
+
+same-length-6 : tie.Need-same-length-6
+same-length-6 c = search needs
+
+returns-6 : tie.Need-returns-6
+returns-6 c = rw (c .before .before .before .before .enum-told6 .given .1) (c .before .before .ends-of-statements3 .ensures Unhoisted _ (λ q w z h. passed-out _ _ q w z _ _ _ h Unhoisted refl _ (nowhere _ (c .before .before .before .before .before .before .before .is-nowhere .ensures)) (nowhere _ (c .before .before .before .before .before .before .is-nowhere2 .ensures))))
+
+same-length-7 : tie.Need-same-length-7
+same-length-7 c = search needs
+
+returns-7 : tie.Need-returns-7
+returns-7 c = rw (c .before .before .before .before .enum-told7 .given .1) (c .before .before .ends-by-kind4 .ensures Conditional _ (λ q w z h. conditional-out _ _ q w h (loopOf (c .before .before .before .before .before .before .before .before .before .before .args .lp))))
+
+same-length-8 : tie.Need-same-length-8
+same-length-8 c = search needs
+
+returns-8 : tie.Need-returns-8
+returns-8 c = rw (c .before .before .before .before .before .before .enum-told8 .given .1) (c .from-label .ensures)
 
 pub ends-of-spec : {M : Type 1} → statement M
 ends-of-spec =
     tie.close
     (tie.spec
-    Inv-loop
-    μ-loop
-    is-idle-requires
-    is-idle-requires-2
-    of-statements-requires
-    of-values-requires
-    loop-holds
-    mul-scratch
-    slice-write-scratch
-    kept-requires
-    add-top
-    rest-of-requires
-    loop-less
-    loop-again
+    is-nowhere-requires
+    is-nowhere-requires-2
+    enum-told
+    ends-by-kind-requires
+    enum-told-2
+    ends-by-kind-requires-2
+    enum-told-3
+    ends-by-kind-requires-3
+    enum-told-4
+    ends-of-statements-requires
+    enum-told-5
+    ends-of-statements-requires-2
+    enum-told-6
+    ends-of-statements-requires-3
+    enum-told-7
+    ends-by-kind-requires-4
+    enum-told-8
+    ends-of-statements-requires-4
+    from-label-requires
     same-length
-    returns)
+    returns
+    same-length-2
+    returns-2
+    same-length-3
+    returns-3
+    same-length-4
+    returns-4
+    same-length-5
+    returns-5
+    same-length-6
+    returns-6
+    same-length-7
+    returns-7
+    same-length-8
+    returns-8)

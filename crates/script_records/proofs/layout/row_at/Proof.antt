@@ -1,7 +1,7 @@
 -- `row_at` meets its contract.
 use native.Mathlib.Omega.{arith}
 use mathlib.Core.Path.{_∙_}
-use Rattle.script_records.proofs.LayoutLaws.{rows-out, row-short, row-whole}
+use Rattle.script_records.proofs.LayoutLaws.{rows-out, row-short}
 use borrow.Author.Needs.{needs}
 use Rattle.script_records.proofs.layout.row_at.Statement.{statement}
 use Rattle.script_records.proofs.layout.row_at.Tie as tie
@@ -36,41 +36,11 @@ no-row-requires-3 c κs = search needs
 returns-3 : tie.Need-returns-3
 returns-3 c = c .no-row3 .ensures ∙ row-short _ _ _ (c .before .before .before .if1 .left) (omega arith)
 
-mul-at : tie.Need-mul-at
-mul-at c = search needs
-
-add-at : tie.Need-add-at
-add-at c = search needs
-
-word-requires : tie.Need-word-requires
-word-requires c κs = search needs
-
-add-word : tie.Need-add-word
-add-word c = search needs
-
-word-requires-2 : tie.Need-word-requires-2
-word-requires-2 c κs = search needs
-
-add-word-2 : tie.Need-add-word-2
-add-word-2 c = search needs
-
-word-requires-3 : tie.Need-word-requires-3
-word-requires-3 c κs = search needs
-
-add-word-3 : tie.Need-add-word-3
-add-word-3 c = search needs
-
-word-requires-4 : tie.Need-word-requires-4
-word-requires-4 c κs = search needs
-
-add-word-4 : tie.Need-add-word-4
-add-word-4 c = search needs
-
-word-requires-5 : tie.Need-word-requires-5
-word-requires-5 c κs = search needs
+known-row-requires : tie.Need-known-row-requires
+known-row-requires c κs = (c .before .before .if1 .left, omega arith)
 
 returns-4 : tie.Need-returns-4
-returns-4 c = row-whole _ _ _ (c .before .before .before .before .before .before .before .if1 .left) (omega arith) (c .before .before .before .before .word .ensures) (c .before .before .before .word2 .ensures) (c .before .before .word3 .ensures) (c .before .word4 .ensures) (c .word5 .ensures)
+returns-4 c = c .known-row .ensures
 
 pub row-at-spec : {M : Type 1} → statement M
 row-at-spec =
@@ -86,15 +56,5 @@ row-at-spec =
     add-if3
     no-row-requires-3
     returns-3
-    mul-at
-    add-at
-    word-requires
-    add-word
-    word-requires-2
-    add-word-2
-    word-requires-3
-    add-word-3
-    word-requires-4
-    add-word-4
-    word-requires-5
+    known-row-requires
     returns-4)
