@@ -1,6 +1,6 @@
 -- Which form a first byte starts, said once for a whole range of bytes.
 -- Assumes nothing.
-use mathlib.Core.Path.{_≡_, refl, sym, ap, _∙_}
+use mathlib.Core.Path.{_≡_, refl}
 use mathlib.Core.Bool.{Bool, true, false, cond, _&&_, and-false, and-eq-true-iff}
 use mathlib.Core.List.{List, [], _∷_}
 use mathlib.Core.Option.{Option, none, some}
@@ -9,10 +9,6 @@ use native.Mathlib.Omega.{arith}
 use lib.Dec.{leb, ltb}
 use borrow.Author.Tests.{leb-true, ltb-true, le-leb, lt-leb}
 use Rattle.utf8.specs.Utf8.{Range, chars, started, next}
-use Rattle.utf8.specs.State.{ranges, rangesAfter}
-use Rattle.utf8.specs.declared.Owed.{Owed}
-use Rattle.utf8.specs.declared.Step.{Step}
-use Rattle.utf8.specs.declared.Step.the-variants.{Taken}
 
 pub by-test : {P : Type 0} (t : Bool) → (t ≡ true → P) → (t ≡ false → P) → P
 by-test true y n = y refl
@@ -48,9 +44,3 @@ module _ (low high : ℕ) {b : ℕ} (above : low ≤ b) (below : b ≤ high) whe
   pub starts : (o : Option (List Range)) → decided low high chars ≡ some o → next [] b ≡ o
   unfolding next
   starts o e = among chars o e
-
-  pub takes : {r : Step} {o : Owed} → r ≡ Taken o → decided low high chars ≡ some (some (ranges o)) → rangesAfter r ≡ next [] b
-  takes {r} {o} p e = ap rangesAfter p ∙ sym (starts (some (ranges o)) e)
-
-  pub refuses : decided low high chars ≡ some none → none ≡ next [] b
-  refuses e = sym (starts none e)

@@ -1,4 +1,4 @@
 pub mod Forms
-pub mod Owing
+pub mod Reading
 pub mod Grammar
 pub mod Laws

@@ -1,2 +1,2 @@
 pub mod Utf8
-pub mod State
+pub mod Chars

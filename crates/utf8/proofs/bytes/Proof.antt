@@ -1,39 +1,28 @@
--- `utf8::bytes` meets its contract. The loop's invariant: the bytes up to i leave owed what `state` says.
+-- `utf8::bytes` meets its contract. The loop's invariant: up to i there is ASCII.
 -- Assumes nothing.
-use Prim.Native.Nat.{_-_, _≤_}
+use Prim.Native.Nat.{_-_}
+use denote.Ref.{now}
 use native.Mathlib.Omega.{arith}
-use borrow.Author.Needs.{needs}
-use lib.ListN.{drop}
-use Rattle.utf8.specs.State.{ranges}
-use Rattle.utf8.specs.Utf8.{completes}
-use Rattle.utf8.proofs.Owing.{Read, read-from, read-more, read-refused, read-up}
+use lib.ListN.{length}
+use Rattle.utf8.specs.Chars.{Passed}
+use Rattle.utf8.proofs.Reading.{passed-none, passed-char, ascii-byte, further}
 use Rattle.utf8.proofs.bytes.Statement.{statement}
 use Rattle.utf8.proofs.bytes.Tie as tie
 
 abbrev Inv-loop : tie.InvT-loop
-Inv-loop s from to state₀ i₀ state i = (i ≤ to) × Read s (completes (ranges state₀) (drop i₀ s)) state i
+Inv-loop s start i₀ i = Passed s start i
 
 abbrev μ-loop : tie.MeasureT-loop
-μ-loop s from to state₀ i₀ state i = to - i
+μ-loop s start i₀ i = length s - i
 
 loop-holds : tie.Need-loop-holds Inv-loop μ-loop
-loop-holds c = (omega arith, read-from _ _ _ (omega arith))
+loop-holds c = passed-none _ _ (omega arith)
 
-shared-slice-read-next : tie.Need-shared-slice-read-next Inv-loop μ-loop
-shared-slice-read-next c = omega arith
-
-next-requires : tie.Need-next-requires Inv-loop μ-loop
-next-requires c κs = search needs
-
-enum-known-rest : tie.Need-enum-known-rest Inv-loop μ-loop
-enum-known-rest c = search needs
-
-enum-told : tie.Need-enum-told Inv-loop μ-loop
-enum-told c = search needs
+shared-slice-read-if1 : tie.Need-shared-slice-read-if1 Inv-loop μ-loop
+shared-slice-read-if1 c = omega arith
 
 returns : tie.Need-returns Inv-loop μ-loop
-returns c =
-    read-refused (c .before .before .before .before .before .loop .inv .1) (omega arith) (c .before .before .next .ensures) (c .enum-told .given .1)
+returns c = let p = c .before .before .before .loop .inv in (p, λ h a. further p a (c .if1 .taken))
 
 add-i : tie.Need-add-i Inv-loop μ-loop
 add-i c = omega arith
@@ -43,10 +32,12 @@ loop-less c = omega arith
 
 loop-again : tie.Need-loop-again Inv-loop μ-loop
 loop-again c =
-    (omega arith, read-more (c .before .before .before .before .before .before .loop .inv .1) (omega arith) (c .before .before .before .next .ensures) (c .before .rest .given .1))
+    let s = now (c .before .before .before .before .args .s) in
+    let i = c .before .before .before .loop .i in
+    passed-char 1 (c .before .before .before .loop .inv) (omega arith) (ascii-byte s i (omega arith) (c .if1 .left))
 
 returns-2 : tie.Need-returns-2 Inv-loop μ-loop
-returns-2 c = read-up (c .before .loop .inv .1) (c .before .loop .inv .0) (c .loop-test .left)
+returns-2 c = (c .before .loop .inv, λ h a. omega arith)
 
 pub bytes-spec : {M : Type 1} → statement M
 bytes-spec =
@@ -55,10 +46,7 @@ bytes-spec =
     Inv-loop
     μ-loop
     loop-holds
-    shared-slice-read-next
-    next-requires
-    enum-known-rest
-    enum-told
+    shared-slice-read-if1
     returns
     add-i
     loop-less
