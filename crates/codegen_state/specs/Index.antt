@@ -26,9 +26,9 @@ word s i = getD s i 0 + getD s (i + 1) 0 * 256 + getD s (i + 2) 0 * 65536 + getD
 abbrev pub folded : ℕ → ℕ
 folded x = x % 2147483648 + x / 2147483648
 
--- a hash with two words more
+-- a hash with two words more; the multipliers are primes that spread numbered and other similar strings well
 unfoldable pub mixed : (h a b : ℕ) → ℕ
-mixed h a b = folded ((h + a) * 374761393 + b * 668265263)
+mixed h a b = folded ((h + a) * 430309897 + b * 784330331)
 
 -- how many words of each end of a string of n bytes are hashed: all its bytes up to 2,048 bytes, and the first and the last 128 of a longer one
 unfoldable pub rounds : ℕ → ℕ
