@@ -1,11 +1,11 @@
 -- The index of the pool: behind the words of the list slice stand 2,048 heads and 2,048 links. A string's hash chooses its head; the head is the place, plus 1, of
 -- the latest string of the pool with that hash, and a string's link that of the one before it; 0 for none.
-use Prim.Native.Nat.{ℕ, zero, suc, _+_, _*_, _%_, _<_}
+use Prim.Native.Nat.{ℕ, zero, suc, _+_, _-_, _*_, _/_, _%_, _<_}
 use mathlib.Core.Path.{_≡_}
-use mathlib.Core.List.{List, [], _∷_}
+use mathlib.Core.List.{List}
 use mathlib.Core.Bool.{cond}
-use lib.Dec.{eqb}
-use lib.ListN.{getD}
+use lib.Dec.{eqb, ltb}
+use lib.ListN.{length, getD}
 use Rattle.list_slice.specs.File.{textIn}
 
 -- where the heads and the links begin, and how many words a builder works with
@@ -18,12 +18,29 @@ linksFrom = 18432
 abbrev pub workWords : ℕ
 workWords = 20480
 
-unfoldable pub hashFrom : ℕ → List ℕ → ℕ
-hashFrom h [] = h
-hashFrom h (b ∷ bs) = hashFrom ((h * 31 + b) % 65536) bs
+-- the four bytes from i on as one number, with zeros behind the end
+abbrev pub word : List ℕ → (i : ℕ) → ℕ
+word s i = getD s i 0 + getD s (i + 1) 0 * 256 + getD s (i + 2) 0 * 65536 + getD s (i + 3) 0 * 16777216
 
-abbrev pub hash : List ℕ → ℕ
-hash s = hashFrom 0 s % 2048
+-- modulo the prime 2^31 - 1 a number is the sum of its quotient and its rest by 2^31
+abbrev pub folded : ℕ → ℕ
+folded x = x % 2147483648 + x / 2147483648
+
+-- a hash with two words more; the multipliers are primes that spread numbered and other similar strings well
+unfoldable pub mixed : (h a b : ℕ) → ℕ
+mixed h a b = folded ((h + a) * 430309897 + b * 784330331)
+
+-- how many words of each end of a string of n bytes are hashed: all its bytes up to 2,048 bytes, and the first and the last 128 of a longer one
+unfoldable pub rounds : ℕ → ℕ
+rounds n = cond (ltb 2048 n) 32 (n / 8 + 1)
+
+-- the hash of a string's length and of k words of each end
+unfoldable pub hashed : List ℕ → (k : ℕ) → ℕ
+hashed s zero = length s % 65536
+hashed s (suc k) = mixed (hashed s k) (word s (4 * k)) (word s (length s - 4 * k - 4))
+
+unfoldable pub hash : List ℕ → ℕ
+hash s = hashed s (rounds (length s)) % 2048
 
 -- the place, plus 1, of the latest of n strings whose hash is h, where hs gives the hash of each
 unfoldable pub latest : (hs : ℕ → ℕ) → (h n : ℕ) → ℕ

@@ -1,3 +1,4 @@
+pub mod HashLaws
 pub mod SearchLaws
 pub mod Added
 pub mod PushLaws

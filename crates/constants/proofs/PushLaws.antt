@@ -3,10 +3,10 @@ use Prim.Native.Nat.{ℕ, _+_, _-_, _≤_, _<_}
 use mathlib.Core.Path.{_≡_, refl, sym, ap, _∙_}
 use mathlib.Core.List.{List, [], _∷_, _++_, map}
 use mathlib.Core.Bool.{Bool, true, false}
-use mathlib.Core.Option.{Option, none, some}
+use mathlib.Core.Option.{none, some}
 use native.Mathlib.Omega.{arith}
 use lib.Dec.{T, ltb}
-use lib.ListN.{length, set, length-take, length-drop, length-map}
+use lib.ListN.{length, length-take, length-drop, length-map}
 use borrow.Author.Tests.{lt-ltb, le-leb, lt-leb}
 use Rattle.hir.specs.Hir.{Str}
 use Rattle.pcode.specs.Pcode.{Value}
@@ -159,7 +159,7 @@ module _ (F : List ℕ) (s : ℕ) {b : CodeBuilder} {w : List ℕ} (f : Fine b w
       pub push-refused : (r .refused ≡ 0 → ⊥) → Does F (push-string (textIn F s)) b w tt r w₁
       push-refused q = record { same = rw (joined, held-stopped F (tt {0}) r w₁ q); fine = d .fine; named = d .named }
 
-      pub push-added : (q : r .refused ≡ 0) {r′ : CodeBuilder} {w′ : List ℕ} {h′ : ℕ} → (h′ ≡ hash x) × (h′ < 2048) → T (namesString F s) → Added r w₁ s (length x + 1) h′ r′ w′ →
+      pub push-added : (q : r .refused ≡ 0) {r′ : CodeBuilder} {w′ : List ℕ} {h′ : ℕ} → (h′ ≡ hash (textIn F s)) × (h′ < 2048) → T (namesString F s) → Added r w₁ s (length x + 1) h′ r′ w′ →
           Does F (push-string (textIn F s)) b w tt r′ w′
       push-added q {h′ = h′} g t a =
           let fits = room f h d q in
@@ -176,5 +176,5 @@ module _ (F : List ℕ) (s : ℕ) {b : CodeBuilder} {w : List ℕ} (f : Fine b w
                   ← text,
                 );
             fine = added-fine F r w₁ s (length x + 1) h′ (d .fine) fits (g .1) (omega (arith, same-total f h d q));
-            named = λ n. added-named F r w₁ s (length x + 1) h′ (d .fine) fits (g .1) (g .0 ∙ ap hash text) t (d .named n);
+            named = λ n. added-named F r w₁ s (length x + 1) h′ (d .fine) fits (g .1) (g .0) t (d .named n);
           })

@@ -1,10 +1,9 @@
--- The string of a reference, its hash, and the search of the pool along the strings of one hash.
-use Prim.Native.Nat.{ℕ, zero, suc, _+_, _-_, _*_, _%_, _≤_, _<_}
+-- The string of a reference, and the search of the pool along the strings of one hash.
+use Prim.Native.Nat.{ℕ, zero, suc, _+_, _-_, _≤_, _<_}
 use mathlib.Core.Path.{_≡_, refl, sym, ap, _∙_}
 use mathlib.Core.List.{List, [], _∷_, map}
 use mathlib.Core.Bool.{Bool, true, false, cond}
 use mathlib.Core.Option.{Option, none, some}
-use native.Mathlib.Numerals.{add-one}
 use native.Mathlib.Omega.{arith}
 use lib.ListN.{length, getD, take, drop, length-take, length-drop, drop-of-length-le}
 use lib.Seq.{drop-cons, getD-take, getD-drop}
@@ -16,7 +15,7 @@ use Rattle.script_records.specs.declared.layout.Layout.{Layout}
 use Rattle.script_records.specs.Layout.{layoutOf, stringAt}
 use Rattle.lowering.specs.Strings.{find}
 use Rattle.list_slice.specs.File.{noString, textIn}
-use Rattle.codegen_state.specs.Index.{hashFrom, hash, latest, hashAt, Indexed}
+use Rattle.codegen_state.specs.Index.{hash, latest, hashAt, Indexed}
 use Rattle.codegen_state.proofs.Index.{latest-le, latest-again, latest-has}
 use Rattle.special_properties.proofs.Laws.{same-bytes-equal}
 use Rattle.constants.specs.declared.Found.{Found}
@@ -31,22 +30,9 @@ pub text-of : (F : List ℕ) (s : ℕ) {l : Layout} → (s ≡ noString → ⊥)
 unfolding textIn
 text-of F s h e g = g ∙ simp (ne-eqb s noString h, e)
 
--- the loop of `bucket`: the first k bytes are taken
-pub record Hashed (s : List ℕ) (h k : ℕ) : Type 0 where
-  pub small : h < 65536
-  pub rest : hashFrom h (drop k s) ≡ hashFrom 0 s
-
-pub hashed-none : {s : List ℕ} → Hashed s 0 0
-hashed-none = record { small = omega arith; rest = refl }
-
-module _ {s : List ℕ} {h k : ℕ} (v : Hashed s h k) where
-  pub hashed-more : k < length s → {x : ℕ} → (x ≡ getD s k 0) × (x < 256) → Hashed s ((h * 31 + x) % 65536) (k + 1)
-  unfolding hashFrom
-  hashed-more p e = record { small = omega arith; rest = rw (add-one, e .0) (rw (drop-cons s k 0 p) at (v .rest)) }
-
-  pub hashed-all : length s ≤ k → h % 2048 ≡ hash s
-  unfolding hashFrom
-  hashed-all p = ap (λ (x : ℕ). x % 2048) (rw (drop-of-length-le s {i = k} p) at (v .rest))
+-- the same reference is the same string
+pub same-reference : (F : List ℕ) {s t : ℕ} → t ≡ s → true ≡ sameBytes (textIn F s) (textIn F t)
+same-reference F {s} {t} e = sym (same-bytes-equal (textIn F s) (textIn F t) .1 (ap (textIn F) (sym e)))
 
 find-here : (p : Str → Bool) (i : ℕ) (x : Str) (xs : List Str) → find p i (x ∷ xs) ≡ cond (p x) (some i) (find p (suc i) xs)
 find-here p i x xs = go (p x)

@@ -1,7 +1,8 @@
 ghost use mathlib.Core.Path.{_≡_};
-ghost use Prim.Native.Nat.{_<_};
+ghost use Prim.Native.Nat.{_+_, _≤_, _<_};
+ghost use mathlib.Core.Bool.{_&&_};
 ghost use mathlib.Core.List.{[]};
-ghost use lib.ListN.{length, getD};
+ghost use lib.ListN.{length, getD, drop};
 ghost use Rattle.special_properties.specs.SpecialProperties.{names, toAsciiLowercase, getSpecialProperty, propertyOf, sameBytes, null, undefined};
 
 // What a name stands for: the property of a number, or none.
@@ -115,6 +116,23 @@ pub fn get_special_property(name: &[u8]) -> Property
     Property::None
 }
 
+// Whether so many bytes from a position on are the same in both. No byte ends the comparison, so that the compiler compares many of them at once.
+fn same_block(a: &[u8], b: &[u8], from: usize, size: usize) -> bool
+    requires { ⌜ (from + size ≤ length (now a)) × (from + size ≤ length (now b)) ⌝ }
+    ensures { λ r. ⌜ (r && sameBytes (drop (from + size) (now (a .entry))) (drop (from + size) (now (b .entry)))) ≡ sameBytes (drop from (now (a .entry))) (drop from (now (b .entry))) ⌝ }
+{
+    let mut same = true;
+    let mut i: usize = 0;
+    while i < size {
+        if a[from + i] != b[from + i] {
+            same = false;
+        }
+        i += 1;
+    }
+    same
+}
+
+// Blocks of 64 bytes, and one of the rest.
 pub fn same_bytes(a: &[u8], b: &[u8]) -> bool
     ensures { λ r. ⌜ r ≡ sameBytes (now (a .entry)) (now (b .entry)) ⌝ }
 {
@@ -123,13 +141,13 @@ pub fn same_bytes(a: &[u8], b: &[u8]) -> bool
         return false;
     }
     let mut k: usize = 0;
-    while k < n {
-        if a[k] != b[k] {
+    while 64 <= n - k {
+        if !same_block(a, b, k, 64) {
             return false;
         }
-        k += 1;
+        k += 64;
     }
-    true
+    same_block(a, b, k, n - k)
 }
 
 pub fn is_null(name: &[u8]) -> bool

@@ -1,5 +1,4 @@
 -- `nearer` meets its contract.
-use mathlib.Core.Path.{sym}
 use borrow.Author.Needs.{needs}
 use Rattle.constants.proofs.nearer.Statement.{statement}
 use Rattle.constants.proofs.nearer.Tie as tie

@@ -22,7 +22,7 @@ same-length c = search needs
 
 returns : tie.Need-returns
 returns c = let start = c .before .before .before .before .before .before .before .before .before in
-    λ t e. push-unpooled (now (start .args .file)) (start .args .s) (start .pre .0) (start .pre .1 .1) (c .before .before .before .before .before .before .text .ensures) e (search needs) (c .before .before .push .ensures (now (start .args .file)) t)
+    λ t e. push-unpooled (now (start .args .file)) (start .args .s) (start .pre .0) (start .pre .1 .1 .0) (c .before .before .before .before .before .before .text .ensures) e (search needs) (c .before .before .push .ensures (now (start .args .file)) t)
 
 push-requires-2 : tie.Need-push-requires-2
 push-requires-2 c κs = search needs
@@ -32,7 +32,7 @@ same-length-2 c = search needs
 
 returns-2 : tie.Need-returns-2
 returns-2 c = let start = c .before .before .before .before .before .before .before .before .before .before .before in
-    λ t e. push-refused (now (start .args .file)) (start .args .s) (start .pre .0) (start .pre .1 .1) (c .before .before .before .before .before .before .before .before .text .ensures) e (search needs) (c .before .before .before .before .push2 .ensures (now (start .args .file)) (search needs)) (c .if2 .taken)
+    λ t e. push-refused (now (start .args .file)) (start .args .s) (start .pre .0) (start .pre .1 .1 .0) (c .before .before .before .before .before .before .before .before .text .ensures) e (search needs) (c .before .before .before .before .push2 .ensures (now (start .args .file)) (search needs)) (c .if2 .taken)
 
 cast-add : tie.Need-cast-add
 cast-add c = search needs
@@ -40,18 +40,16 @@ cast-add c = search needs
 add-add : tie.Need-add-add
 add-add c = search needs
 
-bucket-requires : tie.Need-bucket-requires
-bucket-requires c κs = search needs
-
 add-requires : tie.Need-add-requires
-add-requires c κs = add-room (c .before .before .before .before .before .before .before .before .before .before .before .before .before .pre .0) (c .before .before .before .before .before .before .before .before .before .before .before .before .before .pre .1 .1) (c .before .before .before .before .before .before .push2 .ensures (now (c .before .before .before .before .before .before .before .before .before .before .before .before .before .args .file)) (search needs)) (c .before .before .if2 .left) (search needs) (c .bucket .ensures .1)
+add-requires c κs = let start = c .before .before .before .before .before .before .before .before .before .before .before .before in
+    add-room (start .pre .0) (start .pre .1 .1 .0) (c .before .before .before .before .before .push2 .ensures (now (start .args .file)) (search needs)) (c .before .if2 .left) (search needs) (start .pre .1 .1 .1 .1)
 
 same-length-3 : tie.Need-same-length-3
 same-length-3 c = search needs
 
 returns-3 : tie.Need-returns-3
-returns-3 c =
-    λ t e. push-added (now (c .before .before .before .before .before .before .before .before .before .before .before .before .before .before .before .before .args .file)) (c .before .before .before .before .before .before .before .before .before .before .before .before .before .before .before .before .args .s) (c .before .before .before .before .before .before .before .before .before .before .before .before .before .before .before .before .pre .0) (c .before .before .before .before .before .before .before .before .before .before .before .before .before .before .before .before .pre .1 .1) (c .before .before .before .before .before .before .before .before .before .before .before .before .before .text .ensures) e (search needs) (c .before .before .before .before .before .before .before .before .before .push2 .ensures (now (c .before .before .before .before .before .before .before .before .before .before .before .before .before .before .before .before .args .file)) (search needs)) (c .before .before .before .before .before .if2 .left) (c .before .before .before .bucket .ensures) t (c .before .before .add .ensures)
+returns-3 c = let start = c .before .before .before .before .before .before .before .before .before .before .before .before .before .before .before in
+    λ t e. push-added (now (start .args .file)) (start .args .s) (start .pre .0) (start .pre .1 .1 .0) (c .before .before .before .before .before .before .before .before .before .before .before .before .text .ensures) e (search needs) (c .before .before .before .before .before .before .before .before .push2 .ensures (now (start .args .file)) (search needs)) (c .before .before .before .before .if2 .left) (start .pre .1 .1 .1) t (c .before .before .add .ensures)
 
 pub push-new-spec : {M : Type 1} → statement M
 push-new-spec =
@@ -68,7 +66,6 @@ push-new-spec =
     returns-2
     cast-add
     add-add
-    bucket-requires
     add-requires
     same-length-3
     returns-3)

@@ -2,8 +2,10 @@
 -- Assumes nothing.
 use Prim.Native.Nat.{_-_}
 use mathlib.Core.Path.{sym}
+use native.Mathlib.Omega.{arith}
 use borrow.Author.Needs.{needs}
-use Rattle.special_properties.proofs.Same.{Agree, lengths-differ, agree-none, agree-more, agree-not, agree-all}
+use borrow.Author.Tests.{not-true, not-false}
+use Rattle.special_properties.proofs.Same.{Agree, lengths-differ, agree-none, agree-block, agree-not-block, agree-last}
 use Rattle.special_properties.proofs.same_bytes.Statement.{statement}
 use Rattle.special_properties.proofs.same_bytes.Tie as tie
 
@@ -19,14 +21,14 @@ returns c = sym (lengths-differ (λ x. x) _ _ (c .if1 .taken))
 loop-holds : tie.Need-loop-holds Inv-loop μ-loop
 loop-holds c = agree-none (λ x. x) (c .if1 .left)
 
-shared-slice-read-if2 : tie.Need-shared-slice-read-if2 Inv-loop μ-loop
-shared-slice-read-if2 c = search needs
+sub-loop : tie.Need-sub-loop Inv-loop μ-loop
+sub-loop c = search needs
 
-shared-slice-read-if2-2 : tie.Need-shared-slice-read-if2-2 Inv-loop μ-loop
-shared-slice-read-if2-2 c = search needs
+same-block-requires : tie.Need-same-block-requires Inv-loop μ-loop
+same-block-requires c κs = search needs
 
 returns-2 : tie.Need-returns-2 Inv-loop μ-loop
-returns-2 c = sym (search agree-not)
+returns-2 c = sym (agree-not-block (c .before .before .before .loop .inv) (record { rest = c .before .same-block .ensures }) (not-true (c .before .same-block .result) (c .if2 .taken)))
 
 add-k : tie.Need-add-k Inv-loop μ-loop
 add-k c = search needs
@@ -35,10 +37,16 @@ loop-less : tie.Need-loop-less Inv-loop μ-loop
 loop-less c = search needs
 
 loop-again : tie.Need-loop-again Inv-loop μ-loop
-loop-again c = search agree-more
+loop-again c = agree-block (c .before .before .before .loop .inv) (record { rest = c .before .same-block .ensures }) (omega arith) (not-false (c .before .same-block .result) (c .if2 .left))
+
+sub-same-block : tie.Need-sub-same-block Inv-loop μ-loop
+sub-same-block c = search needs
+
+same-block-requires-2 : tie.Need-same-block-requires-2 Inv-loop μ-loop
+same-block-requires-2 c κs = search needs
 
 returns-3 : tie.Need-returns-3 Inv-loop μ-loop
-returns-3 c = sym (search agree-all)
+returns-3 c = agree-last (c .before .before .loop .inv) (record { rest = c .same-block2 .ensures }) (omega arith)
 
 pub same-bytes-spec : {M : Type 1} → statement M
 same-bytes-spec =
@@ -48,10 +56,12 @@ same-bytes-spec =
     μ-loop
     returns
     loop-holds
-    shared-slice-read-if2
-    shared-slice-read-if2-2
+    sub-loop
+    same-block-requires
     returns-2
     add-k
     loop-less
     loop-again
+    sub-same-block
+    same-block-requires-2
     returns-3)
