@@ -30,9 +30,9 @@ folded x = x % 2147483648 + x / 2147483648
 unfoldable pub mixed : (h a b : ℕ) → ℕ
 mixed h a b = folded ((h + a) * 430309897 + b * 784330331)
 
--- how many words of each end of a string of n bytes are hashed: all its bytes up to 2,048 bytes, and the first and the last 128 of a longer one
+-- how many words of each end of a string of n bytes are hashed: all its bytes up to 4,096 bytes, and the first and the last 128 of a longer one
 unfoldable pub rounds : ℕ → ℕ
-rounds n = cond (ltb 2048 n) 32 (n / 8 + 1)
+rounds n = cond (ltb 4096 n) 32 (n / 8 + 1)
 
 -- the hash of a string's length and of k words of each end
 unfoldable pub hashed : List ℕ → (k : ℕ) → ℕ

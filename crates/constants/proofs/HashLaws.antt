@@ -8,13 +8,13 @@ use lib.ListN.{length}
 use borrow.Author.Tests.{lt-ltb, le-ltb}
 use Rattle.codegen_state.specs.Index.{word, mixed, rounds, hashed, hash}
 
-pub rounds-long : (n : ℕ) → 2048 < n → 32 ≡ rounds n
+pub rounds-long : (n : ℕ) → 4096 < n → 32 ≡ rounds n
 unfolding rounds
-rounds-long n h = rw (lt-ltb 2048 n h)
+rounds-long n h = rw (lt-ltb 4096 n h)
 
-pub rounds-whole : (n : ℕ) → n ≤ 2048 → n / 8 + 1 ≡ rounds n
+pub rounds-whole : (n : ℕ) → n ≤ 4096 → n / 8 + 1 ≡ rounds n
 unfolding rounds
-rounds-whole n h = rw (le-ltb 2048 n h)
+rounds-whole n h = rw (le-ltb 4096 n h)
 
 -- a string shorter than a word
 pub hash-short : (s : List ℕ) {w h : ℕ} → length s < 4 → w ≡ word s 0 → h ≡ mixed (length s % 65536) w w → h % 2048 ≡ hash s

@@ -81,13 +81,13 @@ fn rounds(n: usize) -> usize
     requires { ⌜ 4 ≤ n ⌝ }
     ensures { λ r. ⌜ (r ≡ rounds n) × (4 * r ≤ n) ⌝ }
 {
-    if 2048 < n {
+    if 4096 < n {
         return 32;
     }
     n / 8 + 1
 }
 
-// The hash of a string: no more than 2,048 of its bytes count, so that a long string that is pushed often costs no more than others.
+// The hash of a string: no more than 4,096 of its bytes count, so that a long string that is pushed often costs no more than others.
 fn bucket(s: &[u8]) -> u32
     ensures { λ r. ⌜ (r ≡ hash (now (s .entry))) × (r < 2048) ⌝ }
 {
