@@ -61,8 +61,6 @@ const FEW: [&str; 4] = ["a", "b", "f", "text"];
 
 fn shapes() -> Vec<Shape> {
     let (strings, pushes) = pooled(1_820);
-    let nested = (0..40).fold(block(vec![]), |inner, _| block(vec![inner]));
-    let update = for_classic(None, vec![], voids(26_000), block(vec![]));
     let left = (0..60).fold(name(0), |e, _| binary(2, field(e, integer(1)), integer(2)));
     let right = (0..100).fold(integer(1), |e, _| binary(2, name(0), e));
     let steps = (0..60).fold(name(0), |e, _| unary(3, 0, field(e, integer(1))));
@@ -73,19 +71,106 @@ fn shapes() -> Vec<Shape> {
         shape("1,000 actions", &FEW, common(1_000)),
         shape("full pool: 1,820 strings of 35 bytes", &strings, pushes),
         shape("2,048 values", &NONE, array(vec![integer(7); 2_047])),
-        shape("1 MiB of one string", &["a".repeat(1_048_000)], vec![run(integer(1))]),
         shape("1 MiB of records", &NONE, vec![node(BREAK, []); 52_426]),
-        shape("50,000 siblings in a function that is emitted again and again", &FEW, again(58, vec![node(BREAK, []); 50_000])),
-        shape("25,000 empty blocks, again and again", &FEW, again(58, vec![block(vec![]); 25_000])),
-        shape("620 blocks 41 deep, again and again", &FEW, again(8, vec![nested; 620])),
-        shape("16,600 Voids as statements, again and again", &FEW, again(58, voids(16_600).into_iter().map(run).collect())),
-        shape("26,000 Voids in an array, again and again", &FEW, again(58, array(voids(26_000)))),
-        shape("26,000 Voids in a loop's update, again and again", &FEW, again(58, vec![update])),
-        shape("26,000 Voids returned, again and again", &FEW, again(58, vec![node(RETURN, [list(voids(26_000))])])),
         shape("compound assignments, 60 deep on the left", &FEW, vec![run(left)]),
         shape("compound assignments, 100 deep on the right", &FEW, vec![run(right)]),
         shape("increments, 60 deep", &FEW, vec![run(steps)]),
         shape("20 functions in each other", &FEW, vec![inner]),
+    ]
+}
+
+/// So many blocks in each other around a statement.
+fn nested(depth: usize, inside: Node) -> Node {
+    (0..depth).fold(inside, |inner, _| block(vec![inner]))
+}
+
+/// What generates nothing, in functions that are generated again and again.
+fn idle() -> Vec<Shape> {
+    let void = || run(node(VOID, [integer(1)]));
+    let void_statements = || voids(16_600).into_iter().map(run).collect::<Vec<_>>();
+    let breaks = |count| vec![node(BREAK, []); count];
+    let update = for_classic(None, vec![], voids(26_000), block(vec![]));
+    let with_empty = |first: bool| {
+        (0..40).fold(void(), |inner, _| block(if first { vec![block(vec![]), inner] } else { vec![inner, block(vec![])] }))
+    };
+    let with_break = (0..40).fold(void(), |inner, _| block(vec![node(BREAK, []), inner]));
+    let mut play_first = breaks(50_000);
+    play_first.insert(0, run(node(PLAY, [])));
+    let mut function_first = void_statements();
+    function_first.insert(0, run(function(1, 0, 0, &[], vec![])));
+    let with_case = |mut elements: Vec<Node>, at: usize| {
+        elements.insert(at, case(integer(1)));
+        vec![switch(name(0), elements)]
+    };
+    vec![
+        ("50,000 siblings in a function that is emitted", again(58, breaks(50_000))),
+        ("25,000 empty blocks", again(58, vec![block(vec![]); 25_000])),
+        ("620 blocks 41 deep", again(8, vec![nested(40, block(vec![])); 620])),
+        ("10,000 blocks around a Void", again(58, vec![nested(1, void()); 10_000])),
+        ("600 times 40 blocks in each other around a Void", again(8, vec![nested(40, void()); 600])),
+        ("150 times 100 blocks in each other around 130 Breaks", again(8, vec![nested(101, block(breaks(130))); 150])),
+        ("100 blocks in each other around a play and 50,000 Breaks", again(8, vec![nested(100, block(play_first))])),
+        ("400 times 40 blocks, each with a Break and a block", again(8, vec![with_break; 400])),
+        ("300 times 40 blocks, each with an empty block and a block", again(8, vec![with_empty(true); 300])),
+        ("300 times 40 blocks, each with a block and an empty block", again(8, vec![with_empty(false); 300])),
+        ("16,600 Voids as statements", again(58, void_statements())),
+        ("16,600 Voids after a named function", again(58, function_first)),
+        ("26,000 Voids in an array", again(58, array(voids(26_000)))),
+        ("26,000 Voids in a loop's update", again(58, vec![update])),
+        ("26,000 Voids returned", again(58, vec![node(RETURN, [list(voids(26_000))])])),
+        ("a switch with 50,000 Breaks before its case", again(58, with_case(breaks(50_000), 50_000))),
+        ("a switch with 25,000 plays before its case", again(58, with_case(vec![run(node(PLAY, [])); 25_000], 25_000))),
+        ("a switch with 16,600 Voids before its case", again(58, with_case(void_statements(), 16_600))),
+        ("a switch with 16,600 Voids after its case", again(58, with_case(void_statements(), 0))),
+    ]
+    .into_iter()
+    .map(|(name, statements)| shape(format!("{name}, again and again"), &FEW, statements))
+    .collect()
+}
+
+/// A text of about 1 MiB, whose next character an arbitrary number tells.
+fn text(next: impl Fn(u32) -> char) -> String {
+    let mut seed = 1u32;
+    let mut out = String::new();
+    while out.len() < 1_040_000 {
+        seed = seed.wrapping_mul(1_664_525).wrapping_add(1_013_904_223);
+        out.push(next(seed >> 16));
+    }
+    out
+}
+
+/// Strings: what is looked at when a file is checked, and found in the pool.
+fn strings() -> Vec<Shape> {
+    let unused = |name: &str, text: String| shape(format!("1 MiB of {name}"), &[text], vec![run(integer(1))]);
+    let pushed = |name: &str, strings: &[String], times: u32| {
+        let count = strings.len() as u32;
+        shape(name, strings, array((0..times).map(|i| string(i % count)).collect()))
+    };
+    let pairs = |i: usize| (0..17).map(|k| if i >> (k % 11) & 1 == 1 { "Aa" } else { "BB" }).collect::<String>();
+    let alike = |i: usize| "a".repeat(1_050) + &format!("{i:04}") + &"a".repeat(1_050);
+    vec![
+        unused("one string", "a".repeat(1_048_000)),
+        unused("two-byte characters", "\u{e9}".repeat(524_000)),
+        unused("three-byte characters", "\u{5b57}".repeat(349_000)),
+        unused("four-byte characters", "\u{1f600}".repeat(262_000)),
+        unused("text, each hundredth character of two bytes", ("a".repeat(99) + "\u{e9}").repeat(10_300)),
+        unused("text, each second character of two bytes", "a\u{e9}".repeat(349_000)),
+        unused("text, one character in twenty, at random, of two bytes", text(|n| if n % 20 == 0 { '\u{e9}' } else { 'a' })),
+        unused("characters of one to four bytes, at random", text(|n| ['a', '\u{e9}', '\u{5b57}', '\u{1f600}'][n as usize % 4])),
+        shape("260,000 empty strings", &vec![""; 260_000], vec![run(integer(1))]),
+        shape("80,000 strings of 8 bytes", &vec!["abcdefgh"; 80_000], vec![run(integer(1))]),
+        pushed("a string of 900,000 bytes, pushed 2,047 times", &["a".repeat(900_000)], 2_047),
+        pushed("a string of 65,000 bytes, pushed 2,047 times", &["a".repeat(65_000)], 2_047),
+        pushed("a string of 4,000 bytes, pushed 2,047 times", &["a".repeat(4_000)], 2_047),
+        pushed("two strings of 40,000 bytes, pushed 2,047 times", &["a".repeat(40_000), "b".repeat(40_000)], 2_047),
+        pushed("two equal strings of 30,000 bytes, pushed 2,047 times", &["a".repeat(30_000), "a".repeat(30_000)], 2_047),
+        pushed(
+            "30 strings of 2,104 bytes that differ in the middle, pushed 2,047 times",
+            &(0..30).map(alike).collect::<Vec<_>>(),
+            2_047,
+        ),
+        pushed("1,820 strings of Aa and BB", &(0..1_820).map(pairs).collect::<Vec<_>>(), 1_820),
+        pushed("2,047 numbers as strings", &(0..2_047).map(|i| i.to_string()).collect::<Vec<_>>(), 2_047),
     ]
 }
 
@@ -137,7 +222,9 @@ fn shown(time: f64) -> String {
 fn main() {
     let part = std::env::args().nth(1).unwrap_or_default();
     println!("| Script | Bytes | This repository | Rascal |\n|---|---:|---:|---:|");
-    for (name, file) in shapes().into_iter().chain(growing()).filter(|(name, _)| name.contains(&part)) {
+    for (name, file) in
+        shapes().into_iter().chain(idle()).chain(strings()).chain(growing()).filter(|(name, _)| name.contains(&part))
+    {
         let answer = compile(&file, LIST_WORDS, WIDE_ROOM);
         let note = answer.as_ref().map_or_else(|number| format!(" (refusal {number})"), |_| String::new());
         // What the programs lend, where the bytes fit.
