@@ -1,12 +1,10 @@
 -- A Block in a Block in which it alone may generate anything.
-use Prim.Native.Nat.{ℕ, zero, suc, _+_, _-_, _≤_, _<_}
+use Prim.Native.Nat.{ℕ, zero, suc, _-_, _≤_, _<_}
 use mathlib.Core.Path.{_≡_, refl, sym, ap, _∙_}
 use mathlib.Core.List.{List, [], _∷_}
-use mathlib.Core.Bool.{Bool, true, false, cond, not}
+use mathlib.Core.Bool.{Bool, true, false, cond}
 use native.Mathlib.Omega.{arith}
-use native.Mathlib.Numerals.{add-one}
 use lib.Dec.{ltb, eqb}
-use lib.ListN.{length, getD, set}
 use borrow.Author.Tests.{eq-eqb, ne-eqb}
 use Rattle.script_records.specs.declared.layout.Layout.{Layout}
 use Rattle.script_records.specs.declared.part.Part.{Part}
@@ -14,20 +12,19 @@ use Rattle.script.specs.Resolve.{resolved}
 use Rattle.pcode.specs.declared.Op.the-variants.{Pop}
 use Rattle.pcode.specs.Pcode.{Plain, Action, Item, moved, rowOf}
 use Rattle.lowering.specs.Builder.{State, Step, ok, allow, with-items, _>>=_, _>>_, stack-size, action, action-with-stack-delta, pops, truncate-stack}
-use Rattle.lowering.specs.Meaning.{Loop, Meaning, hoisted, list}
+use Rattle.lowering.specs.Meaning.{Loop, hoisted}
 use Rattle.lowering.specs.Statement.{meanings, gen-those, gen-statements, gen-block}
 use Rattle.codegen_state.specs.View.{Waiting, Held, holds, stopped, back, carry, after}
 use Rattle.codegen_state.proofs.Steps.{after-then, after-done}
-use Rattle.tree.specs.declared.Node.{Node}
 use Rattle.tree.specs.Trees.{nodeOf, kindAt}
 use Rattle.tree.specs.Within.{Within, IsList, meaningsAt, kidAt, listAt}
 use Rattle.tree.proofs.Nodes.{is-node, trees-none}
-use Rattle.tree.proofs.Meanings.{kid-zero, list-zero}
+use Rattle.tree.proofs.Meanings.{kid-zero}
 use Rattle.builder.specs.Labels.{labels-of}
 use Rattle.rows.specs.declared.Each.{Each}
 use Rattle.rows.specs.declared.Each.the-variants.{Hoisted, Unhoisted}
 use Rattle.rows.specs.Rows.{oneOf, eachOf, cases-of}
-use Rattle.rows.specs.Kept.{upto, startOf, Kept, KeptOf, ofPassed}
+use Rattle.rows.specs.Kept.{upto, startOf, Kept, ofPassed}
 use Rattle.rows.specs.Innermost.{Same, Unlabelled, Only, Innermost}
 use Rattle.rows.proofs.Passed.{node-is, passed-out, block-root}
 use Rattle.rows.proofs.Kept.{each-more, before-is, same-part, RowInv, row-start, row-out, row-in, row-less, row-done}
@@ -115,7 +112,7 @@ abbrev noted : Part → ℕ
 noted p = cond (eqb (p .n) 0) 0 1
 
 pub record OnlyInv (F : List ℕ) (l : Layout) (breaks continues : Bool) (g0 found g : Part) : Type 0 where
-  pub row : RowInv F l (ofPassed F l 8 breaks continues) g0 (found .end ∷ []) g (noted found)
+  pub row : RowInv F l (ofPassed F l 4 breaks continues) g0 (found .end ∷ []) g (noted found)
   pub is : (found .n ≡ 0 → ⊥) → upto (g0 .end - g0 .n) (found .end) ≡ found
   pub within : (found .n ≡ 0 → ⊥) → Within F l found
   pub fewer : found .n ≤ g0 .n
@@ -123,19 +120,19 @@ pub record OnlyInv (F : List ℕ) (l : Layout) (breaks continues : Bool) (g0 fou
 module _ (F : List ℕ) (l : Layout) (breaks continues : Bool) where
   pub only-start : {g found : Part} → Within F l g → found .n ≡ 0 → OnlyInv F l breaks continues g found g
   only-start {g} {found} w z = record {
-    row = rw (eq-eqb (found .n) 0 z) (row-start F l (ofPassed F l 8 breaks continues) (found .end ∷ []) g w);
+    row = rw (eq-eqb (found .n) 0 z) (row-start F l (ofPassed F l 4 breaks continues) (found .end ∷ []) g w);
     is = λ h. absurd (h z);
     within = λ h. absurd (h z);
     fewer = omega arith;
   }
 
   module _ {g0 found g : Part} (i : OnlyInv F l breaks continues g0 found g) (h : g .n ≡ 0 → ⊥) {rest : Part} (e : rest ≡ nodeOf F l g .before) where
-    pub only-out : ofPassed F l 8 breaks continues g ≡ true → OnlyInv F l breaks continues g0 found rest
+    pub only-out : ofPassed F l 4 breaks continues g ≡ true → OnlyInv F l breaks continues g0 found rest
     only-out k = record { row = row-out (i .row) h e k; is = i .is; within = i .within; fewer = i .fewer }
 
     pub only-in : found .n ≡ 0 → OnlyInv F l breaks continues g0 g rest
     only-in z =
-        let r : RowInv F l (ofPassed F l 8 breaks continues) g0 (found .end ∷ []) g 0 = rw (eq-eqb (found .n) 0 z) at (i .row) in
+        let r : RowInv F l (ofPassed F l 4 breaks continues) g0 (found .end ∷ []) g 0 = rw (eq-eqb (found .n) 0 z) at (i .row) in
         record {
           row = rw (ne-eqb (g .n) 0 h) (row-in r h e (omega arith));
           is = λ _. same-part (g0 .end - g0 .n) g (r .end);
@@ -154,13 +151,13 @@ module _ (F : List ℕ) (l : Layout) (breaks continues : Bool) where
         within = i .within h;
         fewer = i .fewer;
         same = λ lp (nb, nc) n.
-            let x = k Hoisted lp (λ q w z h. passed-out F l q w z 8 breaks continues h Hoisted refl lp nb nc) in
-            let y = k Unhoisted lp (λ q w z h. passed-out F l q w z 8 breaks continues h Unhoisted refl lp nb nc) in
+            let x = k Hoisted lp (λ q w z h. passed-out F l q w z 4 breaks continues h Hoisted refl lp nb nc) in
+            let y = k Unhoisted lp (λ q w z h. passed-out F l q w z 4 breaks continues h Unhoisted refl lp nb nc) in
             rw (p, i .is h) at (one-statement F l lp (g0 .end - g0 .n) (found .end) (g0 .end) x y (rw (i .is h) n));
       }
 
 -- a Block that is the only one
-module _ (F : List ℕ) (l : Layout) {breaks continues : Bool} {p block : Part} (o : Only F l breaks continues p block) (k : kindAt F l block ≡ 4) {t : Node} (is : t ≡ nodeOf F l block) {inner : Part} (i : IsList F l (t .children) 0 inner) (lp : Loop) (u : Unlabelled breaks continues lp) where
+module _ (F : List ℕ) (l : Layout) {breaks continues : Bool} {p block : Part} (o : Only F l breaks continues p block) (k : kindAt F l block ≡ 4) {kids : Part} (is : kids ≡ nodeOf F l block .children) {inner : Part} (i : IsList F l kids 0 inner) (lp : Loop) (u : Unlabelled breaks continues lp) where
   is-block : kidAt F block 0 .gen-statement lp ≡ gen-block lp (meaningsAt F inner)
   unfolding resolved
   is-block = rw (kid-zero F l block (node-is F l block (o .within)), block-root F l block k, ← is, i .means)
@@ -184,11 +181,11 @@ module _ (F : List ℕ) (l : Layout) (breaks continues : Bool) where
   pub inner-start : {p block : Part} → Within F l p → ((block .n ≡ 0 → ⊥) → Only F l breaks continues p block × (kindAt F l block ≡ 4)) → InnerInv F l breaks continues p p block
   inner-start w n = record { come = λ lp u. record { within = w; fewer = omega arith; same = λ v. refl }; within = w; next = n }
 
-  module _ {p inner block : Part} (i : InnerInv F l breaks continues p inner block) (h : block .n ≡ 0 → ⊥) {t : Node} (is : t ≡ nodeOf F l block) where
-    pub kids-inner : Within F l (t .children)
+  module _ {p inner block : Part} (i : InnerInv F l breaks continues p inner block) (h : block .n ≡ 0 → ⊥) {kids : Part} (is : kids ≡ nodeOf F l block .children) where
+    pub kids-inner : Within F l kids
     kids-inner = rw is (node-is F l block (i .next h .0 .within) .kids-within)
 
-    module _ {deeper : Part} (k : IsList F l (t .children) 0 deeper) where
+    module _ {deeper : Part} (k : IsList F l kids 0 deeper) where
       pub inner-less : deeper .n < inner .n
       inner-less =
           let a = node-is F l block (i .next h .0 .within) .apart in

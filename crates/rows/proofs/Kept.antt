@@ -27,7 +27,7 @@ use Rattle.builder.specs.Labels.{labels-of, one-label}
 use Rattle.rows.specs.declared.Each.{Each}
 use Rattle.rows.specs.declared.Each.the-variants.{Element}
 use Rattle.rows.specs.Rows.{oneOf, eachOf, cases-of, one-case}
-use Rattle.rows.specs.Kept.{isNowhere, Quiet, upto, startOf, Idle, Kept, KeptOf, keeps, KeptBut}
+use Rattle.rows.specs.Kept.{isNowhere, Quiet, upto, startOf, Idle, Kept, keeps, KeptBut}
 use Rattle.rows.proofs.Passed.{never, unlabelled}
 
 pub nowhere : (o : Option ℕ) → {b : Bool} → b ≡ isNowhere o → b ≡ true → o ≡ none

@@ -2,7 +2,7 @@
 use Prim.Native.Nat.{ℕ, zero, suc, _+_, _-_, _≤_, _<_, min}
 use mathlib.Core.Path.{_≡_, refl, sym, ap, _∙_}
 use mathlib.Core.List.{List}
-use mathlib.Core.Bool.{Bool, true, false, cond, not, _&&_, _||_}
+use mathlib.Core.Bool.{Bool, true, false, cond, not, _&&_}
 use mathlib.Core.Option.{none}
 use native.Mathlib.Omega.{arith}
 use native.Mathlib.Numerals.{sub-one}
@@ -30,7 +30,7 @@ use Rattle.codegen_state.specs.View.{Waiting, Held, holds, stopped, carry, afte
 use Rattle.codegen_state.proofs.Steps.{after-then, after-done}
 use Rattle.tree.specs.Trees.{rowsIn, recOf, nodeOf, kindAt, meant}
 use Rattle.tree.specs.Within.{Within, IsNode, meaningsAt, kidAt, listAt}
-use Rattle.tree.proofs.Nodes.{is-node, span-is, trees-none, trees-more}
+use Rattle.tree.proofs.Nodes.{is-node, size-least, span-is, trees-none, trees-more}
 use Rattle.tree.proofs.ByKind.{kind-none, kind-made, last-kind, kids-none, kids-made, no-label}
 use Rattle.tree.proofs.Counting.{element-is}
 use Rattle.tree.proofs.Meanings.{kid-zero, list-zero}
@@ -444,3 +444,29 @@ module _ (rs : List Row) (lo e : ℕ) (breaks continues : Bool) where
 
     pub passed-on : (n ≡ 0 → ⊥) → passed k rs lo e breaks continues ≡ passed (k - 1) rs lo (e - n) breaks continues
     passed-on x = rw (passed-step, lt-ltb 0 n (omega arith))
+
+-- a statement that is an expression: a Void, or not
+module _ (F : List ℕ) (l : Layout) (p : Part) (w : Within F l p) (z : p .n ≡ 0 → ⊥) (k : kindAt F l p ≡ 3) (breaks continues : Bool) where
+  abbrev rs : List Row
+  rs = rowsOf F l
+
+  expr-at : rowIn rs (p .end - 1) .kind ≡ 3
+  expr-at = last-kind F l p z refl ∙ k
+
+  abbrev tree-at : ℕ
+  tree-at = nodeOf F l p .before .end
+
+  below-it : tree-at < p .end
+  below-it = omega (arith, below-end F l p w z, tree-start F l p w z, w .inside)
+
+  by-test : (b : Bool) → b ≡ eqb (rowIn rs (p .end - 2) .kind) 48 → b ≡ passed 128 rs tree-at (p .end) breaks continues
+  by-test true u =
+      let n = at-void rs (p .end) breaks continues {row = rowIn rs (p .end - 1)} refl expr-at u refl in
+      let e : p .end - rowIn rs (p .end - 1) .size ≡ tree-at = rw (node-is F l p w .end, span-is F l p w z refl) in
+      passed-end rs tree-at (p .end - rowIn rs (p .end - 1) .size) breaks continues 127 (λ x. omega (arith, x)) (omega (arith, e))
+      ∙ sym (passed-on rs tree-at (p .end) breaks continues 128 (λ x. omega (arith, x)) below-it n (λ x. omega (arith, x, size-least F l p w z refl)))
+  by-test false u =
+      passed-stop rs tree-at (p .end) breaks continues 128 (λ x. omega (arith, x)) below-it (at-expr rs (p .end) breaks continues {row = rowIn rs (p .end - 1)} refl expr-at u refl) refl
+
+  pub expr-passed : {start : ℕ} → start ≡ tree-at → {b : Bool} → b ≡ eqb (rowIn rs (p .end - 2) .kind) 48 → b ≡ passed 128 rs start (p .end) breaks continues
+  expr-passed s {b} u = rw s (by-test b u)

@@ -1,12 +1,11 @@
 -- Statements as rows: those that are hoisted, and the others.
 use Prim.Native.Nat.{ℕ}
-use mathlib.Core.Path.{_≡_, refl}
+use mathlib.Core.Path.{refl}
 use mathlib.Core.Bool.{true, false, not}
 use Rattle.hir.specs.Tree.{Forest, more}
 use Rattle.lowering.specs.Builder.{when}
 use Rattle.lowering.specs.Meaning.{Loop, Meaning, hoisted}
 use Rattle.lowering.specs.Statement.{gen-those}
-use Rattle.codegen_state.specs.View.{after}
 use Rattle.codegen_state.proofs.Steps.{after-then}
 use Rattle.rows.specs.declared.Each.the-variants.{Hoisted, Unhoisted}
 use Rattle.rows.specs.Rows.{eachOf}

@@ -9,9 +9,9 @@ use crate::ends::is_nowhere;
 use crate::quiet::is_passed;
 use script_records::layout::Layout;
 use script_records::part::Part;
+use tree::children_of;
 use tree::kind_at;
 use tree::list_at;
-use tree::node_at;
 use tree::rest_of;
 
 fn no_part() -> Part
@@ -33,7 +33,7 @@ fn only_tree(file: &[u8], l: Layout, p: Part, breaks: bool, continues: bool) -> 
             return no_part();
         }
         let before = rest_of(file, l, left);
-        if !is_passed(file, l, left, before.end, breaks, continues, 8) {
+        if !is_passed(file, l, left, before.end, breaks, continues, 4) {
             if found.n != 0 {
                 return no_part();
             }
@@ -72,8 +72,7 @@ pub fn innermost(file: &[u8], l: Layout, p: Part, lp: Loop) -> Part
     let mut inner = p;
     let mut block = only_block(file, l, inner, breaks, continues);
     while block.n != 0 {
-        let t = node_at(file, l, block);
-        let kids = t.children;
+        let kids = children_of(file, l, block);
         inner = list_at(file, l, kids, 0);
         block = only_block(file, l, inner, breaks, continues);
     }

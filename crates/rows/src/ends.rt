@@ -11,7 +11,7 @@ ghost use Rattle.rows.specs.Kept.{isNowhere, keeps, ofKinds, ofPassed, K
 use crate::Each;
 use crate::Loop;
 use crate::Target;
-use crate::quiet::is_passed;
+use crate::quiet::is_quiet;
 use script_records::layout::Layout;
 use script_records::part::Part;
 use tree::kind_at;
@@ -86,7 +86,7 @@ fn ends_of_statements(
     while left.n != 0 {
         scratch[top] = left.end;
         let before = rest_of(file, l, left);
-        let out = is_passed(file, l, left, before.end, breaks, continues, 128);
+        let out = is_quiet(file, l, left, before.end, breaks, continues);
         top += kept(out);
         left = before;
     }

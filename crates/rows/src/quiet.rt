@@ -3,13 +3,14 @@ ghost use mathlib.Core.Path.{_≡_};
 ghost use Prim.Native.Nat.{_-_, _<_};
 ghost use lib.Dec.{eqb};
 ghost use Rattle.script_records.specs.Layout.{rowsOf, rowIn, HasRow};
+ghost use Rattle.tree.specs.Trees.{nodeOf};
 ghost use Rattle.tree.specs.Within.{Within};
 ghost use Rattle.rows.specs.Passed.{bit, passesAt, passed};
 use script_records::layout::Layout;
-use script_records::layout::Row;
 use script_records::layout::known_row;
 use script_records::part::Part;
 use script_records::part::minus;
+use tree::kind_at;
 
 fn bit(x: bool) -> usize
     ensures { λ r. ⌜ r ≡ bit x ⌝ }
@@ -77,4 +78,23 @@ pub fn is_passed(
         left -= 1;
     }
     false
+}
+
+// Whether the last tree of a part, which starts at record `start`, is passed. An expression is a Void or it is not.
+pub fn is_quiet(
+    file: &[u8],
+    l: Layout,
+    p: Part,
+    start: usize,
+    breaks: bool,
+    continues: bool,
+) -> bool
+    requires { ⌜ Within (now file) l p ⌝ }
+    requires { ⌜ (p .n ≡ 0 → ⊥) × (start ≡ nodeOf (now file) l p .before .end) ⌝ }
+    ensures { λ r. ⌜ r ≡ passed 128 (rowsOf (now (file .entry)) l) start (p .end) breaks continues ⌝ }
+{
+    if kind_at(file, l, p) == 3 {
+        return is_under(file, l, p.end, 48);
+    }
+    is_passed(file, l, p, start, breaks, continues, 128)
 }

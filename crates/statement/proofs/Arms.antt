@@ -1,43 +1,38 @@
 -- What each construct does, from what its steps do.
-use Prim.Native.Nat.{ℕ, suc, _+_, _-_, _≤_, _<_}
+use Prim.Native.Nat.{ℕ, _+_, _-_}
 use mathlib.Core.Path.{_≡_, refl, sym, ap, _∙_}
 use mathlib.Core.List.{List}
 use mathlib.Core.Bool.{Bool, true, false, cond, not, _&&_, _||_}
 use mathlib.Core.Option.{some, none}
 use native.Mathlib.Omega.{arith}
-use lib.Dec.{T, ltb}
-use borrow.Author.Tests.{lt-ltb}
+use lib.Dec.{ltb}
 use Rattle.hir.specs.declared.Affix.{Affix}
-use Rattle.hir.specs.Hir.{Str, Rec, EnumeratorTarget}
-use Rattle.hir.specs.Tree.{Forest, more}
+use Rattle.hir.specs.Hir.{Str, EnumeratorTarget}
 use Rattle.pcode.specs.declared.Op.{Op}
 use Rattle.pcode.specs.declared.Op.the-variants.{Add2, BitXor, CloneSprite, DefineLocal, DefineLocal2, Enumerate2, Equals2, GetProperty, InitArray, InitObject, Not, Play, Pop, PushDuplicate, SetProperty, StartDrag, StrictEquals, Subtract}
 use Rattle.pcode.specs.Pcode.{Value, Null, Undefined, Integer, Float, op, GotoFrame, GotoFrame2, GotoLabel, up, down}
 use Rattle.script_records.specs.declared.layout.Layout.{Layout}
 use Rattle.script_records.specs.declared.part.Part.{Part}
-use Rattle.lowering.specs.Builder.{M, Step, _>>_, _>>=_, pure, done, when, action, plain-action, push, push-string, create-label, mark-label, truncate-stack, assume-stack-delta, define-function}
-use Rattle.lowering.specs.Access.{Access, Object, Direct, _gives_, store-register, for-constant, get-value, delete, call, call-new}
+use Rattle.lowering.specs.Builder.{Step, _>>_, _>>=_, done, when, action, plain-action, push, push-string, create-label, mark-label, truncate-stack, assume-stack-delta}
+use Rattle.lowering.specs.Access.{Access, Object, Direct, _gives_, store-register, get-value, delete, call, call-new}
 use Rattle.lowering.specs.Operators.{trivial-assign, assign, logical-and, logical-or}
-use Rattle.lowering.specs.Meaning.{Loop, Meaning, width, present, param, element, Literal, string, integer}
+use Rattle.lowering.specs.Meaning.{Loop, width, present, param, string, integer}
 use Rattle.lowering.specs.Meaning as meaning
-use Rattle.lowering.specs.Statement.{meaning, meanings, jump, branch, no-loop, expr, discarded, exprs, exprs-reversed, all-discarded, gen-those, gen-statements, gen-block, gen-values, gen-declaration, with-labels, has-case, has-default, default-label, gen-conditionals, gen-elements, gen-cases, gen-switch, gen-while-loop, gen-target, gen-condition, gen-enumerate, gen-classic, gen-branches, gen-if, assign-value, gen-trivial, gen-binary-op, is-prefix, adjust-in-place, gen-ternary, gen-arguments, gen-call, gen-new, gen-fields, gen-init-object, gen-init-array, gen-duplicate, frame, gen-goto-frame, bit, gen-start-drag, expr-of, statement-of}
-use Rattle.lowering.proofs.Laws.{kid-law, width-law}
+use Rattle.lowering.specs.Statement.{meaning, jump, branch, expr, discarded, exprs, all-discarded, gen-those, gen-statements, gen-block, gen-values, gen-declaration, with-labels, has-case, has-default, gen-conditionals, gen-elements, gen-cases, gen-switch, gen-while-loop, gen-target, gen-condition, gen-enumerate, gen-classic, gen-branches, gen-if, assign-value, gen-trivial, gen-binary-op, is-prefix, adjust-in-place, gen-ternary, gen-arguments, gen-call, gen-new, gen-fields, gen-init-object, gen-init-array, gen-duplicate, frame, gen-goto-frame, bit, gen-start-drag}
+use Rattle.lowering.proofs.Laws.{width-law}
 use Rattle.list_slice.specs.File.{textIn}
 use Rattle.codegen_state.specs.declared.CodeBuilder.{CodeBuilder}
-use Rattle.codegen_state.specs.View.{held, after}
-use Rattle.codegen_state.specs.Does.{Fine, Named, Does}
+use Rattle.codegen_state.specs.Does.{Fine, Does}
 use Rattle.codegen_state.proofs.Steps.{idle, after-done, after-then, after-bind, after-size, carry-held, returned}
 use Rattle.tree.specs.declared.Node.{Node}
-use Rattle.tree.specs.Trees.{trees, recOf, nodeOf, elementOf, meant}
-use Rattle.tree.specs.Within.{Within, IsNode, IsKid, IsList, meaningsAt, kidAt, listAt}
-use Rattle.tree.proofs.Nodes.{is-node, trees-more, trees-none}
-use Rattle.tree.proofs.Meanings.{kid-zero}
+use Rattle.tree.specs.Trees.{trees, recOf}
+use Rattle.tree.specs.Within.{IsNode, IsKid, IsList, meaningsAt, kidAt, listAt}
 use Rattle.builder.specs.Labels.{elements-from}
 use Rattle.rows.specs.declared.Each.the-variants.{Expr, Discarded, Field, Statement, Hoisted, Unhoisted, Conditional, Element}
-use Rattle.rows.specs.Rows.{eachOf, any-hoisted, select, callOf}
+use Rattle.rows.specs.Rows.{eachOf, any-hoisted, select}
 use Rattle.rows.specs.Innermost.{Innermost}
 use Rattle.rows.proofs.Statements.{hoisted-each, others-each}
-use Rattle.statement.proofs.Rows.{same-does, exprs-each, discarded-each, fields-each, hoisted-none, statements-each, has-case-is, tests-each, elements-each}
+use Rattle.statement.proofs.Rows.{same-does, exprs-each, discarded-each, fields-each, hoisted-none, statements-each, tests-each, elements-each}
 use Rattle.statement.proofs.Laws.{Testing, Switching, rec-is, none-at, values-law, drag-law, condition-law, present-law, has-tests, has-no-tests}
 
 both-false : (d q : Bool) → (not d && not q) ≡ true → (d ≡ false) × (q ≡ false)

@@ -14,9 +14,9 @@ use Rattle.pcode.specs.declared.Op.the-variants.{StrictEquals}
 use Rattle.lowering.specs.Builder.{Step, _>>_, done, when, action, push, push-string, mark-label, mark-default}
 use Rattle.lowering.specs.Meaning.{Loop, Meaning, param, hoisted, element}
 use Rattle.lowering.specs.Meaning as meaning
-use Rattle.lowering.specs.Statement.{meanings, branch, expr, discarded, exprs, all-discarded, gen-those, gen-fields, has-case, has-default, default-label, gen-conditionals, gen-elements}
+use Rattle.lowering.specs.Statement.{meanings, branch, expr, discarded, exprs, all-discarded, gen-fields, has-case, has-default, default-label, gen-conditionals, gen-elements}
 use Rattle.codegen_state.specs.declared.CodeBuilder.{CodeBuilder}
-use Rattle.codegen_state.specs.View.{Held, after}
+use Rattle.codegen_state.specs.View.{after}
 use Rattle.codegen_state.specs.Does.{Does}
 use Rattle.codegen_state.proofs.Steps.{after-then, after-done}
 use Rattle.tree.specs.Trees.{labelled, cases, fromDefault, fromDefault-at, isLabelled, isCase}

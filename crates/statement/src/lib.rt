@@ -2,7 +2,7 @@
 // same part further down in this order: the constructs, gen_statements, each and args, one, for_expr, gen_expr and gen_statement.
 // Each takes the file and its layout, the part whose last tree (or whose trees) it generates, the builder, the list slice, and a scratch slice.
 ghost use mathlib.Core.Path.{_≡_};
-ghost use Prim.Native.Nat.{ℕ, _+_, _≤_, _<_};
+ghost use Prim.Native.Nat.{_+_, _≤_, _<_};
 ghost use lib.Dec.{T};
 ghost use lib.ListN.{length};
 ghost use Rattle.pcode.specs.Pcode.{moved};

@@ -1,12 +1,11 @@
 -- What a record's kind alone says of it.
-use Prim.Native.Nat.{ℕ, zero, suc, _-_, _<_}
-use mathlib.Core.Path.{_≡_, refl, sym, ap, _∙_}
+use Prim.Native.Nat.{ℕ, _-_, _<_}
+use mathlib.Core.Path.{_≡_, refl, sym}
 use mathlib.Core.Bool.{Bool, true, false, cond, not}
 use mathlib.Core.List.{List}
 use native.Mathlib.Omega.{arith}
 use lib.Dec.{ltb, eqb}
-use lib.ListN.{getD}
-use borrow.Author.Tests.{eqb-true, eqb-false, eq-eqb, ne-eqb}
+use borrow.Author.Tests.{eq-eqb, ne-eqb}
 use Rattle.hir.specs.declared.Record.{Record}
 use Rattle.hir.specs.declared.Record.the-variants as kind
 use Rattle.script_records.specs.declared.layout.Layout.{Layout}
@@ -16,7 +15,6 @@ use Rattle.script_records.specs.declared.part.Tree.{Tree}
 use Rattle.script_records.specs.Layout.{Words, wordsOf, supported, rowsOf, rowIn}
 use Rattle.script_records.specs.Parts.{lastTree}
 use Rattle.decode.specs.Decode.{recordOf, plainOf}
-use Rattle.tree.specs.declared.Element.{Element}
 use Rattle.tree.specs.declared.Element.the-variants.{Statement}
 use Rattle.tree.specs.Trees.{nodeOf, kindAt, elementOf}
 

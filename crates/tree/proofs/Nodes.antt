@@ -208,6 +208,13 @@ module _ (F : List ℕ) (l : Layout) (p : Part) (w : Within F l p) (h : p .n ≡
   pub rest-is : {s : ℕ} → row .size ≡ s → {r : Part} → r ≡ record { end = p .end - s; n = p .n - s } → r ≡ nodeOf F l p .before
   rest-is e q = let i = is-node F l p w refl in q ∙ rw (← e, ← span-is, ← i .end, ← i .n)
 
+  pub size-least : 1 ≤ row .size
+  size-least = rw same-size (size-some F l p w (omega arith))
+
+  pub children-are : _≡_ {A = Part} (record { end = p .end - 1; n = row .size - 1 }) (nodeOf F l p .children)
+  unfolding nodeOf lastTree
+  children-are = rw (ne-eqb (p .n) 0 h, ← span-is, w .layout)
+
 -- the trees of a part by its node
 module _ (F : List ℕ) (l : Layout) (p : Part) {r : Node} (i : IsNode F l p r) where
   pub trees-more : 0 < p .n → trees F p ≡ more (trees F (r .before)) (recOf F (r .root)) (trees F (r .children))

@@ -76,6 +76,21 @@ pub fn rest_of(file: &[u8], l: Layout, p: Part) -> Part
     without(p, row.size as usize)
 }
 
+// The children of the last tree.
+pub fn children_of(file: &[u8], l: Layout, p: Part) -> Part
+    requires { ⌜ Within (now file) l p ⌝ }
+    ensures { λ r. ⌜ r ≡ nodeOf (now (file .entry)) l p .children ⌝ }
+{
+    if p.n == 0 {
+        return p;
+    }
+    let row = known_row(file, l, p.end - 1);
+    Part {
+        end: p.end - 1,
+        n: row.size as usize - 1,
+    }
+}
+
 // The kind of the last tree's record, and that of an absent child where there is none.
 pub fn kind_at(file: &[u8], l: Layout, p: Part) -> u32
     requires { ⌜ Within (now file) l p ⌝ }
@@ -226,9 +241,5 @@ pub fn list_at(file: &[u8], l: Layout, p: Part, n: u32) -> Part
     ensures { λ r. ⌜ IsList (now (file .entry)) l p n r ⌝ }
 {
     let kid = kid_at(file, l, p, n);
-    if kid.n == 0 {
-        return kid;
-    }
-    let t = last_tree(file, l, kid);
-    t.children
+    children_of(file, l, kid)
 }

@@ -23,20 +23,20 @@ only-block-requires c κs = c .before .before .before .pre
 loop-holds : tie.Need-loop-holds Inv-loop μ-loop
 loop-holds c = inner-start _ _ _ _ (c .before .before .before .before .pre) (c .only-block .ensures)
 
-node-at-requires : tie.Need-node-at-requires Inv-loop μ-loop
-node-at-requires c κs = search needs
+children-of-requires : tie.Need-children-of-requires Inv-loop μ-loop
+children-of-requires c κs = c .before .before .loop .inv .next (c .if1 .taken) .0 .within
 
 list-at-requires : tie.Need-list-at-requires Inv-loop μ-loop
-list-at-requires c κs = kids-inner _ _ _ _ (c .before .before .before .before .loop .inv) (c .before .before .if1 .taken) (c .before .node-at .ensures)
+list-at-requires c κs = kids-inner _ _ _ _ (c .before .before .before .loop .inv) (c .before .if1 .taken) (c .children-of .ensures)
 
 only-block-requires-2 : tie.Need-only-block-requires-2 Inv-loop μ-loop
 only-block-requires-2 c κs = c .list-at .ensures .within
 
 loop-less : tie.Need-loop-less Inv-loop μ-loop
-loop-less c = inner-less _ _ _ _ (c .before .before .before .before .before .before .loop .inv) (c .before .before .before .before .if1 .taken) (c .before .before .before .node-at .ensures) (c .before .list-at .ensures)
+loop-less c = inner-less _ _ _ _ (c .before .before .before .before .before .loop .inv) (c .before .before .before .if1 .taken) (c .before .before .children-of .ensures) (c .before .list-at .ensures)
 
 loop-again : tie.Need-loop-again Inv-loop μ-loop
-loop-again c = inner-again _ _ _ _ (c .before .before .before .before .before .before .loop .inv) (c .before .before .before .before .if1 .taken) (c .before .before .before .node-at .ensures) (c .before .list-at .ensures) (c .only-block2 .ensures)
+loop-again c = inner-again _ _ _ _ (c .before .before .before .before .before .loop .inv) (c .before .before .before .if1 .taken) (c .before .before .children-of .ensures) (c .before .list-at .ensures) (c .only-block2 .ensures)
 
 returns : tie.Need-returns Inv-loop μ-loop
 returns c = c .before .before .loop .inv .come _ (nowhere _ (c .before .before .before .before .before .is-nowhere .ensures), nowhere _ (c .before .before .before .before .is-nowhere2 .ensures))
@@ -51,7 +51,7 @@ innermost-spec =
     is-nowhere-requires-2
     only-block-requires
     loop-holds
-    node-at-requires
+    children-of-requires
     list-at-requires
     only-block-requires-2
     loop-less

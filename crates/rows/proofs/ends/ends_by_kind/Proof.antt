@@ -1,5 +1,4 @@
 -- `ends_by_kind` meets its contract.
-use mathlib.Core.Path.{sym}
 use borrow.Author.Needs.{needs}
 use native.Mathlib.Omega.{arith}
 use Rattle.rows.specs.Kept.{ofKinds}

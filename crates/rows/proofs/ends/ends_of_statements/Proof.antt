@@ -1,5 +1,5 @@
 -- `ends_of_statements` meets its contract.
-use mathlib.Core.Path.{ap, _∙_}
+use mathlib.Core.Path.{ap}
 use borrow.Author.Needs.{needs}
 use native.Mathlib.Omega.{arith}
 use Rattle.script_records.specs.declared.part.Part.{Part}
@@ -26,20 +26,20 @@ slice-write-scratch c = search (needs, ends-inside)
 rest-of-requires : tie.Need-rest-of-requires Inv-loop μ-loop
 rest-of-requires c κs = c .before .before .loop .inv .row .within
 
-is-passed-requires : tie.Need-is-passed-requires Inv-loop μ-loop
-is-passed-requires c κs = c .before .before .before .loop .inv .row .within
+is-quiet-requires : tie.Need-is-quiet-requires Inv-loop μ-loop
+is-quiet-requires c κs = (c .before .before .before .loop .inv .row .within, (c .before .if1 .taken, ap (λ (p : Part). p .end) (c .rest-of .ensures)))
 
 kept-requires : tie.Need-kept-requires Inv-loop μ-loop
 kept-requires c κs = search needs
 
 add-top : tie.Need-add-top Inv-loop μ-loop
-add-top c = omega (arith, ends-few (c .before .before .before .before .before .loop .inv) (c .before .before .before .if1 .taken) (rw (c .before .before .rest-of .ensures) at (c .before .is-passed .ensures)) (c .kept .ensures))
+add-top c = omega (arith, ends-few (c .before .before .before .before .before .loop .inv) (c .before .before .before .if1 .taken) (rw (c .before .before .rest-of .ensures) at (c .before .is-quiet .ensures)) (c .kept .ensures))
 
 loop-less : tie.Need-loop-less Inv-loop μ-loop
 loop-less c = search (needs, ends-less)
 
 loop-again : tie.Need-loop-again Inv-loop μ-loop
-loop-again c = ends-again (c .before .before .before .before .before .loop .inv) (c .before .before .before .if1 .taken) (c .before .before .rest-of .ensures) (rw (c .before .before .rest-of .ensures) at (c .before .is-passed .ensures)) (c .kept .ensures)
+loop-again c = ends-again (c .before .before .before .before .before .loop .inv) (c .before .before .before .if1 .taken) (c .before .before .rest-of .ensures) (rw (c .before .before .rest-of .ensures) at (c .before .is-quiet .ensures)) (c .kept .ensures)
 
 same-length : tie.Need-same-length Inv-loop μ-loop
 same-length c = search needs
@@ -57,7 +57,7 @@ ends-of-statements-spec =
     mul-scratch
     slice-write-scratch
     rest-of-requires
-    is-passed-requires
+    is-quiet-requires
     kept-requires
     add-top
     loop-less

@@ -1,5 +1,4 @@
 use borrow.Author.Needs.{needs}
-use borrow.Author.Tests.{not-true, not-false}
 use Rattle.rows.proofs.Passed.{at-void, at-expr, at-break, at-continue, at-block, at-list}
 use Rattle.rows.proofs.quiet.passes.Statement.{statement}
 use Rattle.rows.proofs.quiet.passes.Tie as tie
