@@ -1,7 +1,7 @@
 //! Random files of a seed: originals, and damaged copies after each. The same seed gives the same files.
 
 use crate::random_scripts::Sort;
-use crate::{random_bytes, random_scripts};
+use crate::{random_bytes, random_scripts, random_texts};
 use std::iter::repeat_with;
 
 /// What is made.
@@ -13,6 +13,8 @@ pub enum Kind {
     Overflow,
     /// Script files in which much generates nothing.
     Idle,
+    /// Script files whose strings are texts, damaged in the texts.
+    Texts,
     /// Action bytes.
     Bytes,
 }
@@ -23,6 +25,7 @@ impl Kind {
             "scripts" => Kind::Scripts,
             "overflow" => Kind::Overflow,
             "idle" => Kind::Idle,
+            "texts" => Kind::Texts,
             "bytes" => Kind::Bytes,
             _ => return None,
         })
@@ -59,6 +62,7 @@ pub fn files(kind: Kind, seed: u64, count: usize) -> impl Iterator<Item = File> 
         Kind::Scripts => ('r', Box::new(made(random_scripts::Maker::new(seed, None)))),
         Kind::Overflow => ('o', Box::new(made(random_scripts::Maker::new(seed, Some(Sort::Overflow))))),
         Kind::Idle => ('i', Box::new(made(random_scripts::Maker::new(seed, Some(Sort::Idle))))),
+        Kind::Texts => ('t', Box::new(made(random_texts::Maker::new(seed)))),
         Kind::Bytes => ('b', Box::new(made(random_bytes::Maker::new(seed)))),
     };
     let file = move |(n, (bytes, state))| File { name: format!("{letter}{seed}_{n}"), bytes, state };

@@ -22,6 +22,7 @@ pub mod properties;
 pub mod random;
 pub mod random_bytes;
 pub mod random_scripts;
+pub mod random_texts;
 pub mod shrink;
 pub mod shrink_bytes;
 pub mod shrink_script;

@@ -18,7 +18,9 @@ pub fn shrink(sides: &Sides, kind: Kind, mut file: Vec<u8>) -> Vec<u8> {
     loop {
         let smaller = match kind {
             Kind::Bytes => first(sides, &file, shrink_bytes::Row::read(&file).steps(), from),
-            Kind::Scripts | Kind::Overflow | Kind::Idle => first(sides, &file, shrink_script::Script::read(&file).steps(), from),
+            Kind::Scripts | Kind::Overflow | Kind::Idle | Kind::Texts => {
+                first(sides, &file, shrink_script::Script::read(&file).steps(), from)
+            }
         };
         match smaller {
             Some(smaller) => (from, file) = smaller,

@@ -16,7 +16,7 @@ impl Sides {
     pub fn with_program(kind: Kind, command: Vec<String>) -> Sides {
         let rascal = match kind {
             Kind::Bytes => rascal_read,
-            Kind::Scripts | Kind::Overflow | Kind::Idle => {
+            Kind::Scripts | Kind::Overflow | Kind::Idle | Kind::Texts => {
                 |file: &[u8]| answer::compiled_in_short(&compile(file, LIST_WORDS, ROOM))
             }
         };
@@ -29,7 +29,7 @@ impl Sides {
         use crate::{WIDE_ROOM, library};
         match kind {
             Kind::Bytes => Sides::of(rascal_read, library::read),
-            Kind::Scripts | Kind::Overflow | Kind::Idle => {
+            Kind::Scripts | Kind::Overflow | Kind::Idle | Kind::Texts => {
                 Sides::of(|file| answer::compiled(&compile(file, LIST_WORDS, WIDE_ROOM)), library::compiled)
             }
         }

@@ -37,6 +37,16 @@ fn a_run_without_a_difference_counts_what_it_compares() {
 }
 
 #[test]
+fn texts_compile_and_most_damaged_ones_are_not_utf8() {
+    let sides = Sides::of(rascal_compiled, rascal_compiled);
+    let (counts, difference) = compare(&sides, Kind::Texts, files(Kind::Texts, 5, 4_000));
+    assert!(difference.is_none());
+    let (whole, damaged) = (&counts[&State::Undamaged], &counts[&State::Damaged]);
+    assert!(whole.files == 1_000 && whole.refused.is_empty(), "{whole}");
+    assert!(damaged.refused[&2] > 1_000, "{damaged}");
+}
+
+#[test]
 fn a_length_that_is_wrong_with_a_ternary() {
     fn one_more(file: &[u8]) -> String {
         let mut compiled = compile(file, LIST_WORDS, WIDE_ROOM);
@@ -97,8 +107,13 @@ fn action_bytes_without_lists() {
 #[test]
 fn a_program_as_the_verified_side() {
     let oracle = |call: &str| vec![env!("CARGO_BIN_EXE_oracle").to_string(), call.to_string()];
-    for (kind, call) in [(Kind::Scripts, "compile"), (Kind::Overflow, "compile"), (Kind::Idle, "compile"), (Kind::Bytes, "reads")]
-    {
+    for (kind, call) in [
+        (Kind::Scripts, "compile"),
+        (Kind::Overflow, "compile"),
+        (Kind::Idle, "compile"),
+        (Kind::Texts, "compile"),
+        (Kind::Bytes, "reads"),
+    ] {
         let sides = Sides::with_program(kind, oracle(call));
         assert!(compare(&sides, kind, files(kind, 6, 900)).1.is_none());
     }

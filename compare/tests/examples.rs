@@ -95,7 +95,7 @@ mod library {
 
     #[test]
     fn the_library_on_random_files() {
-        for kind in [Kind::Scripts, Kind::Overflow, Kind::Idle, Kind::Bytes] {
+        for kind in [Kind::Scripts, Kind::Overflow, Kind::Idle, Kind::Texts, Kind::Bytes] {
             let difference = compare(&Sides::with_library(kind), kind, files(kind, 9, 3_000)).1;
             assert!(difference.is_none(), "{}", difference.unwrap().name);
         }

@@ -1,7 +1,7 @@
 //! against KIND [SEED COUNT] [with PROGRAM [ARGUMENT]...]: compares the verified code with Rascal.
 //!
-//! KIND is `scripts`, `overflow` (scripts that fill the pool), `idle` (scripts in which much generates nothing) or `bytes` (action
-//! bytes). The files are COUNT random ones of the seed or, without a seed, lines `NAME BYTES` on standard input. The verified side is the program, for instance
+//! KIND is `scripts`, `overflow` (scripts that fill the pool), `idle` (scripts in which much generates nothing), `texts`
+//! (scripts with strings of any characters, damaged in them) or `bytes` (action bytes). The files are COUNT random ones of the seed or, without a seed, lines `NAME BYTES` on standard input. The verified side is the program, for instance
 //! target/bin/compile_files or target/bin/read_files, or else the static library (feature `verified`).
 //!
 //! Prints what the files come to. At the first difference it stops, makes the file smaller while the difference shows, prints
@@ -18,7 +18,7 @@ fn main() {
     let arguments: Vec<String> = std::env::args().skip(1).collect();
     let mut parts = arguments.splitn(2, |a| a == "with");
     let (what, program) = (parts.next().unwrap(), parts.next());
-    let kind = what.first().and_then(|kind| Kind::named(kind)).expect("scripts, overflow, idle or bytes");
+    let kind = what.first().and_then(|kind| Kind::named(kind)).expect("scripts, overflow, idle, texts or bytes");
     let sides = match program {
         Some(command) => Sides::with_program(kind, command.to_vec()),
         None => library(kind),

@@ -18,7 +18,7 @@ fn bit(x: bool) -> usize
     if x { 1 } else { 0 }
 }
 
-// Whether the record below record e is of a kind.
+// Whether the record under the one below record e is of a kind.
 fn is_under(file: &[u8], l: Layout, e: usize, kind: u32) -> bool
     requires { ⌜ (0 < e) × HasRow (now file) l (e - 1) ⌝ }
     ensures { λ r. ⌜ r ≡ eqb (rowIn (rowsOf (now (file .entry)) l) (e - 2) .kind) kind ⌝ }

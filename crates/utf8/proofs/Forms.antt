@@ -6,9 +6,10 @@ use mathlib.Core.List.{List, [], _∷_}
 use mathlib.Core.Option.{Option, none, some}
 use Prim.Native.Nat.{ℕ, _≤_}
 use native.Mathlib.Omega.{arith}
-use lib.Dec.{leb, ltb}
-use borrow.Author.Tests.{leb-true, ltb-true, le-leb, lt-leb}
-use Rattle.utf8.specs.Utf8.{Range, chars, started, next}
+use lib.Dec.{eqb, leb, ltb}
+use borrow.Author.Tests.{eqb-true, eqb-false, leb-true, ltb-true, ltb-false, le-leb, lt-leb}
+use Rattle.utf8.specs.Utf8.{Range, tail, chars, started, next}
+use Rattle.utf8.specs.Chars.{second}
 
 pub by-test : {P : Type 0} (t : Bool) → (t ≡ true → P) → (t ≡ false → P) → P
 by-test true y n = y refl
@@ -44,3 +45,33 @@ module _ (low high : ℕ) {b : ℕ} (above : low ≤ b) (below : b ≤ high) whe
   pub starts : (o : Option (List Range)) → decided low high chars ≡ some o → next [] b ≡ o
   unfolding next
   starts o e = among chars o e
+
+-- what a first byte owes after the second
+abbrev pub more : ℕ → List Range
+more b = cond (ltb b 0xE0) [] (cond (ltb b 0xF0) (tail ∷ []) (tail ∷ tail ∷ []))
+
+pub second-tail : (b : ℕ) → eqb b 0xE0 ≡ false → eqb b 0xED ≡ false → eqb b 0xF0 ≡ false → eqb b 0xF4 ≡ false → second b ≡ tail
+second-tail b e f g h = simp (e, f, g, h)
+
+-- every first byte of a char of several bytes
+pub opened : (b : ℕ) → 0xC2 ≤ b → b ≤ 0xF4 → next [] b ≡ some (second b ∷ more b)
+unfolding next started
+opened b h k =
+    by-test (eqb b 0xE0) (λ t. let e = eqb-true b 0xE0 t in rw e refl)
+    (λ e.
+    by-test (eqb b 0xED) (λ t. let f = eqb-true b 0xED t in rw f refl)
+    (λ f.
+    by-test (eqb b 0xF0) (λ t. let g = eqb-true b 0xF0 t in rw g refl)
+    (λ g.
+    by-test (eqb b 0xF4) (λ t. let g = eqb-true b 0xF4 t in rw g refl)
+    (λ d.
+    let p = second-tail b e f g d in
+    rw p
+    (by-test (ltb b 0xE0) (λ t. simp t (starts 0xC2 0xDF {b = b} h (omega (arith, ltb-true)) (some (tail ∷ [])) refl))
+    (λ t.
+    by-test (ltb b 0xF0)
+    (λ u.
+    simp (t, u)
+    (by-test (ltb b 0xED) (λ v. starts 0xE1 0xEC {b = b} (omega (arith, eqb-false, ltb-false)) (omega (arith, ltb-true)) (some (tail ∷ tail ∷ [])) refl)
+    (λ v. starts 0xEE 0xEF {b = b} (omega (arith, eqb-false, ltb-false)) (omega (arith, ltb-true)) (some (tail ∷ tail ∷ [])) refl)))
+    (λ u. simp (t, u) (starts 0xF1 0xF3 {b = b} (omega (arith, eqb-false, ltb-false)) (omega (arith, eqb-false)) (some (tail ∷ tail ∷ tail ∷ [])) refl))))))))

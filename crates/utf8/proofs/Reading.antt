@@ -11,12 +11,12 @@ use lib.Dec.{leb, ltb}
 use lib.ListN.{length, getD, drop, drop-of-length-le}
 use lib.Seq.{drop-cons}
 use borrow.Author.Count.{below-none, below-more}
-use borrow.Author.Tests.{leb-true, leb-false, ltb-true, ltb-false, le-leb, lt-leb}
-use Rattle.utf8.specs.Utf8.{Range, _to_, chars, inRange, started, next, completes, utf8}
-use Rattle.utf8.specs.Chars.{from, Ascii, Passed, Ran}
-use Rattle.utf8.proofs.Forms.{by-test, decided, starts}
+use borrow.Author.Tests.{leb-true, leb-false, ltb-true, ltb-false, le-leb, lt-leb, le-ltb, lt-ltb}
+use Rattle.utf8.specs.Utf8.{Range, _to_, tail, chars, inRange, started, next, completes, utf8}
+use Rattle.utf8.specs.Chars.{from, Ascii, Passed, Ran, Stands, second}
+use Rattle.utf8.proofs.Forms.{by-test, decided, starts, more, opened}
 
-byte : (s : List ℕ) (i : ℕ) (o : List Range) → i < length s → completes o (drop i s) ≡ Option·elim (next o (getD s i 0)) false (λ rest. completes rest (drop (suc i) s))
+pub byte : (s : List ℕ) (i : ℕ) (o : List Range) → i < length s → completes o (drop i s) ≡ Option·elim (next o (getD s i 0)) false (λ rest. completes rest (drop (suc i) s))
 unfolding completes
 byte s i o h = rw (drop-cons s i 0 h)
 
@@ -51,6 +51,11 @@ module _ (s : List ℕ) (i : ℕ) (h : i < length s) (low high : ℕ) (above : l
   unfolding Option·elim
   no-first d = byte s i [] h ∙ simp (starts low high above below none d)
 
+-- a first byte of a char of several bytes, by how many it owes after the second
+pub opens : (s : List ℕ) (i : ℕ) (o : List Range) → i < length s → 0xC2 ≤ getD s i 0 → getD s i 0 ≤ 0xF4 → more (getD s i 0) ≡ o → completes (second (getD s i 0) ∷ o) (drop (i + 1) s) ≡ from s i
+unfolding Option·elim
+opens s i o h a k e = rw (← e, add-one) (sym (byte s i [] h ∙ simp (opened (getD s i 0) a k)))
+
 pub bounds : (low high b : ℕ) → inRange b (low to high) ≡ true → (low ≤ b) × (b ≤ high)
 bounds low high b e =
     let p = and-eq-true-iff (leb low b) (leb b high) .0 e in
@@ -58,6 +63,17 @@ bounds low high b e =
 
 pub outside : (low high b : ℕ) → inRange b (low to high) ≡ false → low ≤ b → high < b
 outside low high b e h = leb-false b high (simp (le-leb low b h) at e)
+
+module _ (s : List ℕ) (i : ℕ) (h : i < length s) where
+  pub three-owes : inRange (getD s i 0) (0xE0 to 0xEF) ≡ true → completes (second (getD s i 0) ∷ tail ∷ []) (drop (i + 1) s) ≡ from s i
+  three-owes w =
+      let (l, k) = bounds 0xE0 0xEF (getD s i 0) w in
+      opens s i (tail ∷ []) h (omega arith) (omega arith) (simp (le-ltb (getD s i 0) 0xE0 l, lt-ltb (getD s i 0) 0xF0 (omega arith)))
+
+  pub four-owes : inRange (getD s i 0) (0xF0 to 0xF4) ≡ true → completes (second (getD s i 0) ∷ tail ∷ tail ∷ []) (drop (i + 1) s) ≡ from s i
+  four-owes w =
+      let (l, k) = bounds 0xF0 0xF4 (getD s i 0) w in
+      opens s i (tail ∷ tail ∷ []) h (omega arith) k (simp (le-ltb (getD s i 0) 0xE0 (omega arith), le-ltb (getD s i 0) 0xF0 l))
 
 -- too few bytes for what is owed
 short : (o : List Range) (s : List ℕ) (i : ℕ) → i ≤ length s → length s < i + length o → completes o (drop i s) ≡ false
@@ -108,13 +124,6 @@ at-end s i h = rw (drop-of-length-le s {i = i} h)
 pub ascii-byte : (s : List ℕ) (i : ℕ) → i < length s → getD s i 0 < 0x80 → from s (i + 1) ≡ from s i
 ascii-byte s i h b = first s i h 0 0x7F (omega arith) (omega arith) [] refl
 
--- the last byte is ASCII, or starts a char that is cut off
-pub last : (s : List ℕ) (i : ℕ) → i + 1 ≡ length s → ltb (getD s i 0) 0x80 ≡ from s i
-last s i e =
-    by-test (ltb (getD s i 0) 0x80)
-    (λ t. t ∙ at-end s (i + 1) (omega arith) ∙ ascii-byte s i (omega arith) (omega (arith, ltb-true)))
-    (λ t. t ∙ sym (cut 2 0x80 refl s i (omega arith) (omega (arith, ltb-false)) (omega arith)))
-
 ascii-run : (s : List ℕ) (i n : ℕ) → i + n ≤ length s → Ascii s i n → from s (i + n) ≡ from s i
 ascii-run s i zero h a = let e : i + 0 ≡ i = omega arith in rw e
 ascii-run s i (suc n) h a =
@@ -136,32 +145,8 @@ passed-on p q = record { onward = let a = p .onward in let b = q .onward in omeg
 pub passed-char : {s : List ℕ} {i j : ℕ} (n : ℕ) → Passed s i j → j + n ≤ length s → from s (j + n) ≡ from s j → Passed s i (j + n)
 passed-char {s} {i} {j} n p h e = passed-on p (record { onward = omega arith; within = h; same = e })
 
--- a char of n bytes, by a test that says whether it stands there
-pub passed-tested : {s : List ℕ} {i j : ℕ} (n : ℕ) (t : Bool) → Passed s i j → j + n ≤ length s → t ≡ true → (t && from s (j + n)) ≡ from s j → Passed s i (j + n)
-passed-tested n t p h e q = passed-char n p h (simp e at q)
-
 pub passed-ascii : {s : List ℕ} {i j : ℕ} (n : ℕ) → Passed s i j → j + n ≤ length s → Ascii s j n → Passed s i (j + n)
 passed-ascii {s} {i} {j} n p h a = passed-char n p h (ascii-run s j n h a)
-
--- ASCII is passed where another byte stops
-pub further : {s : List ℕ} {i j : ℕ} → Passed s i j → getD s i 0 < 0x80 → 0x80 ≤ getD s j 0 → i < j
-further {s} {i} {j} p a b =
-    by-test (ltb i j) (ltb-true i j)
-    (λ t.
-    let o = p .onward in
-    let e : j ≡ i = omega (arith, ltb-false) in
-    let b′ : 0x80 ≤ getD s i 0 = rw e at b in
-    omega arith)
-
-pub beyond : {s : List ℕ} {i j k : ℕ} → Passed s i j → Passed s j k → (j < length s → getD s j 0 < 0x80 → j < k) → i < length s → getD s i 0 < 0x80 → i < k
-beyond {s} {i} {j} {k} p q f h a =
-    let o = p .onward in
-    let u = q .onward in
-    by-test (ltb i j) (λ t. omega (arith, ltb-true))
-    (λ t.
-    let e : j ≡ i = omega (arith, ltb-false) in
-    let g = f (rw e h) (rw e a) in
-    omega arith)
 
 module _ {s : List ℕ} {i j : ℕ} (p : Passed s i j) where
   pub ran-further : i < j → Ran s i j
@@ -170,17 +155,16 @@ module _ {s : List ℕ} {i j : ℕ} (p : Passed s i j) where
   pub ran-none : from s j ≡ false → Ran s i j
   ran-none e = record { passed = p; refused = λ w. sym (p .same) ∙ e }
 
-  pub ran-refused : (n : ℕ) (t : Bool) → t ≡ false → (t && from s (j + n)) ≡ from s j → Ran s i j
-  ran-refused n t e q = ran-none (sym (simp e at q))
+module _ {s : List ℕ} {i : ℕ} (n : ℕ) where
+  pub stands-not : from s i ≡ false → Stands s i n false
+  stands-not e = record { yes = λ w. absurd (false≢true w); no = λ w. e }
 
-  -- a byte of another range follows
-  pub ran-other : (r : Range) → inRange (getD s i 0) r ≡ true → inRange (getD s j 0) r ≡ false → Ran s i j
-  ran-other r a b = record { passed = p; refused = λ e. absurd (false≢true (sym b ∙ rw e a)) }
+  -- the char is cut off at the end
+  pub stands-cut : (x high : ℕ) → long n x chars ≡ true → i < length s → inRange (getD s i 0) (x to high) ≡ true → length s < i + n → Stands s i n false
+  stands-cut x high l h a k = stands-not (cut n x l s i h (bounds x high (getD s i 0) a .0) k)
 
-  -- fewer bytes follow than the first char has
-  pub ran-cut : (n x high : ℕ) → long n x chars ≡ true → i < length s → inRange (getD s i 0) (x to high) ≡ true → length s < j + n → Ran s i j
-  ran-cut n x high l h a k =
-      record { passed = p; refused = λ e. cut n x l s i h (bounds x high (getD s i 0) a .0) (omega arith) }
+  pub stands-tested : (t : Bool) → i + n ≤ length s → (t && from s (i + n)) ≡ from s i → Stands s i n t
+  stands-tested t h e = record { yes = λ w. record { onward = omega arith; within = h; same = simp w at e }; no = λ w. sym (simp w at e) }
 
 pub answer : {s : List ℕ} {i : ℕ} {t : Bool} → Passed s 0 i → t ≡ from s i → t ≡ utf8 s
 unfolding utf8
