@@ -28,7 +28,7 @@ folded x = x % 2147483648 + x / 2147483648
 
 -- a hash with two words more; the multipliers are primes that spread numbered and other similar strings well
 unfoldable pub mixed : (h a b : ℕ) → ℕ
-mixed h a b = folded ((h + a) * 430309897 + b * 784330331)
+mixed h a b = folded (h * 402653189 + (a * 430309897 + b * 784330331))
 
 -- how many words of each end of a string of n bytes are hashed: all its bytes up to 4,096 bytes, and the first and the last 128 of a longer one
 unfoldable pub rounds : ℕ → ℕ

@@ -1,6 +1,6 @@
 -- The walk along a row that keeps where its trees end, and leaves out those that generate nothing.
 use Prim.Native.Nat.{ℕ, zero, suc, _+_, _-_, _≤_, _<_, min}
-use mathlib.Core.Path.{_≡_, refl, sym, ap, _∙_}
+use mathlib.Core.Path.{_≡_, refl, sym, ap, _∙_, subst}
 use mathlib.Core.List.{List}
 use mathlib.Core.Bool.{Bool, true, false}
 use mathlib.Core.Option.{Option, none, some}
@@ -11,7 +11,9 @@ use lib.ListN.{length, getD, set, length-set}
 use lib.Seq.{getD-set-same, getD-set-other}
 use Rattle.script_records.specs.declared.layout.Layout.{Layout}
 use Rattle.script_records.specs.declared.part.Part.{Part}
+use Rattle.script_records.specs.Layout.{rowsOf, rowIn}
 use Rattle.script_records.proofs.Trees.{span-le}
+use Rattle.hir.specs.Tree.{Forest}
 use Rattle.lowering.specs.Builder.{_>>_}
 use Rattle.lowering.specs.Meaning.{Loop, Meaning, element}
 use Rattle.lowering.specs.Meaning as meaning
@@ -25,10 +27,13 @@ use Rattle.tree.proofs.Nodes.{is-node, trees-none, trees-more}
 use Rattle.tree.proofs.Meanings.{kid-zero}
 use Rattle.builder.specs.Labels.{labels-of, one-label}
 use Rattle.rows.specs.declared.Each.{Each}
-use Rattle.rows.specs.declared.Each.the-variants.{Element}
+use Rattle.rows.specs.declared.Each.the-variants.{Conditional, Element}
 use Rattle.rows.specs.Rows.{oneOf, eachOf, cases-of, one-case}
-use Rattle.rows.specs.Kept.{isNowhere, Quiet, upto, startOf, Idle, Kept, keeps, KeptBut}
+use Rattle.rows.specs.Kept.{isNowhere, Quiet, upto, startOf, Idle, Kept, keeps, Unlabelled, KeptDown, KeptOf}
 use Rattle.rows.proofs.Passed.{never, unlabelled}
+use Rattle.tree.proofs.ByKind.{last-kind}
+use lib.Dec.{eqb, ltb}
+use borrow.Author.Tests.{eqb-true, eqb-false, ltb-true, ltb-false}
 
 pub nowhere : (o : Option ℕ) → {b : Bool} → b ≡ isNowhere o → b ≡ true → o ≡ none
 nowhere none h t = refl
@@ -217,17 +222,43 @@ module _ {F : List ℕ} {l : Layout} {out : Part → Bool} {x0 : List ℕ} {g0 :
   pub ends-less : {rest : Part} → rest ≡ nodeOf F l g .before → rest .n < g .n
   ends-less e = row-less (i .row) h e
 
-pub row-done : {F : List ℕ} {l : Layout} {out : Part → Bool} {g0 : Part} {x : List ℕ} {g : Part} {top : ℕ} → RowInv F l out g0 x g top → g .n ≡ 0 → KeptBut F l out g0 x top
+-- where the walk stops
+module _ {F : List ℕ} {l : Layout} {out : Part → Bool} {g0 : Part} {x : List ℕ} {g : Part} {top : ℕ} {stop : ℕ} (i : RowInv F l out g0 x g top) where
+  pub row-some : g0 .end - g0 .n ≤ stop → stop < g .end → g .n ≡ 0 → ⊥
+  row-some h k z = omega (arith, i .end)
+
+  pub row-down : g .end ≤ stop → KeptDown F l out stop g0 x top
+  row-down h e lp a = (g .end, h, omega (arith, i .end), rw (same-part (g0 .end - g0 .n) g (i .end)) (i .within), i .kept e lp a)
+
+pub row-done : {F : List ℕ} {l : Layout} {out : Part → Bool} {g0 : Part} {x : List ℕ} {g : Part} {top : ℕ} → RowInv F l out g0 x g top → g .n ≡ 0 →
+    (e : Each) (lp : Loop) → ((q : Part) → Within F l q → (q .n ≡ 0 → ⊥) → out q ≡ true → Quiet F q e lp) → KeptOf F l e lp g0 x top
 row-done {g0 = g0} {x} {g} {top} i z e lp a =
     let d : g .end ≡ g0 .end - g0 .n = omega (arith, i .end) in
     rw d at (i .kept e lp a)
 
+pub down-all : (F : List ℕ) (l : Layout) (out : Part → Bool) (p : Part) (x : List ℕ) (top : ℕ) → KeptDown F l out (p .end - p .n) p x top →
+    (e : Each) (lp : Loop) → ((q : Part) → Within F l q → (q .n ≡ 0 → ⊥) → out q ≡ true → Quiet F q e lp) → KeptOf F l e lp p x top
+down-all F l out p x top k e lp a =
+    let (q, h, g, w, c) = k e lp a in
+    let d : q ≡ p .end - p .n = omega arith in
+    subst (λ (q : ℕ). Kept F l e lp (p .end - p .n) x top q (p .end)) d c
+
+-- a statement before the first label generates nothing
+abbrev Silent : Each → Loop → Type 0
+Silent e lp = (c : ℕ) (m : Meaning) (ms : Forest Meaning) → element (m .rec) ≡ meaning.statement → (f d : ℕ) (v : Held (Unit {0})) → after v (oneOf e lp f d 0 c m ms) ≡ v
+
+pub element-silent : (lp : Loop) → Silent Element lp
+element-silent lp c m ms n f d v = rw n (after-done v)
+
+pub conditional-silent : (lp : Loop) → Silent Conditional lp
+conditional-silent lp c m ms n f d v = rw n (after-done v)
+
+pub none-before : {F : List ℕ} {lp : Loop} {lo : ℕ} {e : Each} {q : ℕ} → Idle F e lp lo lo q → labels-of (meaningsAt F (upto lo q)) ≡ 0
+unfolding meanings labels-of
+none-before {F} {lo = lo} i = i .labels ∙ rw (trees-none F (upto lo lo) (omega arith))
+
 -- the first of a switch's elements that are kept has no label, so it generates nothing
 module _ (F : List ℕ) (l : Layout) (lp : Loop) (lo : ℕ) (x : List ℕ) (last : ℕ) where
-  none-before : {e : Each} {q : ℕ} → Idle F e lp lo lo q → labels-of (meaningsAt F (upto lo q)) ≡ 0
-  unfolding meanings labels-of
-  none-before i = i .labels ∙ rw (trees-none F (upto lo lo) (omega arith))
-
   pub kept-row : (e : Each) (n : ℕ) → (n ≡ 0 → ⊥) → Kept F l e lp lo x n lo last → Within F l (upto lo (getD x (n - 1) 0))
   unfolding Kept
   kept-row e zero z c = absurd (z refl)
@@ -251,3 +282,40 @@ module _ (F : List ℕ) (l : Layout) (lp : Loop) (lo : ℕ) (x : List ℕ) (last
       let n = unlabelled F l (upto lo (getD x u 0)) (c .3) (rw sub-one at h) in
       let t = tree-idle F l lo (getD x u 0) (c .3) (c .0 .up) (c .1) Element lp (λ f d. rw (n, none-before (c .0)) after-done) n in
       rw sub-one (kept-skip F l Element lp lo x u lo _ last (idle-then (c .0) t) (c .4))
+
+pub unlabelled-more : (F : List ℕ) (l : Layout) (lo i : ℕ) → Unlabelled F l lo i → rowIn (rowsOf F l) i .kind < 100 → Unlabelled F l lo (i + 1)
+unlabelled-more F l lo i u h = record { each = λ k a z. by-test k a z (eqb k i) refl }
+  where
+    by-test : (k : ℕ) → lo ≤ k → k < i + 1 → (t : Bool) → eqb k i ≡ t → rowIn (rowsOf F l) k .kind < 100
+    by-test k a z true t = let d = eqb-true k i t in rw d h
+    by-test k a z false t = u .each k a (omega (arith, eqb-false k i t))
+
+-- records without a label, from a row's start on
+module _ (F : List ℕ) (l : Layout) (lp : Loop) (lo : ℕ) (e : Each) (s : Silent e lp) where
+  idle-tree : (j : ℕ) → lo < j → (w : Within F l (upto lo j)) → Unlabelled F l lo j →
+      ((r : ℕ) → r < j → lo ≤ r → Within F l (upto lo r) → Idle F e lp lo lo r) → Idle F e lp lo lo j
+  idle-tree j g w u before =
+      let p = upto lo j in
+      let d = is-node F l p w refl in
+      let m = span-le (rowsIn F) j (j - lo) in
+      let h : lo ≤ startOf F lo j = omega arith in
+      let k : startOf F lo j < j = omega (arith, d .apart, d .n) in
+      let z : p .n ≡ 0 → ⊥ = λ z. omega arith in
+      let i = before (startOf F lo j) k h (rw (← before-is F l lo j d h k) (d .rest-within)) in
+      let n = unlabelled F l p w (rw (← last-kind F l p z refl) (u .each (j - 1) (omega arith) (omega arith))) in
+      idle-then i (tree-idle F l lo j w h k e lp (λ f d v. rw (none-before i) (s _ _ _ n f d v)) n)
+
+  idle-before : (k j : ℕ) → j ≤ k + lo → lo ≤ j → Within F l (upto lo j) → Unlabelled F l lo j → Idle F e lp lo lo j
+  idle-before zero j h g w u = let d : j ≡ lo = omega arith in rw d (idle-none lo)
+  idle-before (suc k) j h g w u = by-test (ltb lo j) refl (λ r v o a. idle-before k r (omega arith) o v (record { each = λ i y z. u .each i y (omega arith) }))
+    where
+      by-test : (t : Bool) → ltb lo j ≡ t → ((r : ℕ) → Within F l (upto lo r) → lo ≤ r → r < j → Idle F e lp lo lo r) → Idle F e lp lo lo j
+      by-test true t before = idle-tree j (ltb-true lo j t) w u (λ r a o v. before r v o a)
+      by-test false t before = let d : j ≡ lo = omega (arith, ltb-false lo j t) in rw d (idle-none lo)
+
+pub down-unlabelled : (F : List ℕ) (l : Layout) (out : Part → Bool) (stop : ℕ) (p : Part) (x : List ℕ) (top : ℕ) → KeptDown F l out stop p x top → Unlabelled F l (p .end - p .n) stop →
+    (e : Each) (lp : Loop) → Silent e lp → ((q : Part) → Within F l q → (q .n ≡ 0 → ⊥) → out q ≡ true → Quiet F q e lp) → KeptOf F l e lp p x top
+down-unlabelled F l out stop p x top k u e lp s a =
+    let (q, h, g, w, c) = k e lp a in
+    kept-skip F l e lp (p .end - p .n) x top (p .end - p .n) q (p .end)
+    (idle-before F l lp (p .end - p .n) e s q q (omega arith) g w (record { each = λ i y z. u .each i y (omega arith) })) c

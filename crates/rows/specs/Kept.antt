@@ -8,7 +8,7 @@ use lib.Dec.{leb}
 use lib.ListN.{getD}
 use Rattle.script_records.specs.declared.layout.Layout.{Layout}
 use Rattle.script_records.specs.declared.part.Part.{Part}
-use Rattle.script_records.specs.Layout.{rowsOf, spanAt}
+use Rattle.script_records.specs.Layout.{rowsOf, rowIn, spanAt}
 use Rattle.lowering.specs.Meaning.{Loop, element}
 use Rattle.lowering.specs.Meaning as meaning
 use Rattle.codegen_state.specs.View.{Held, after}
@@ -63,7 +63,12 @@ abbrev pub keeps : Bool → ℕ
 keeps true = 0
 keeps false = 1
 
--- x has the ends of the trees but those left out, for every row in which these generate nothing
-abbrev pub KeptBut : List ℕ → Layout → (out : Part → Bool) → Part → List ℕ → (top : ℕ) → Type 0
-KeptBut F l out p x top =
-    (e : Each) (lp : Loop) → ((q : Part) → Within F l q → (q .n ≡ 0 → ⊥) → out q ≡ true → Quiet F q e lp) → KeptOf F l e lp p x top
+-- none of the records from lo up to q is a Case's or a Default's
+pub record Unlabelled (F : List ℕ) (l : Layout) (lo q : ℕ) : Type 0 where
+  pub each : (i : ℕ) → lo ≤ i → i < q → rowIn (rowsOf F l) i .kind < 100
+
+-- from a record not after `stop` on, x has the ends of the trees but those left out, for every row in which these generate nothing
+abbrev pub KeptDown : List ℕ → Layout → (out : Part → Bool) → (stop : ℕ) → Part → List ℕ → (top : ℕ) → Type 0
+KeptDown F l out stop p x top =
+    (e : Each) (lp : Loop) → ((q : Part) → Within F l q → (q .n ≡ 0 → ⊥) → out q ≡ true → Quiet F q e lp) →
+    (q : ℕ) × (q ≤ stop) × (p .end - p .n ≤ q) × Within F l (upto (p .end - p .n) q) × Kept F l e lp (p .end - p .n) x top q (p .end)

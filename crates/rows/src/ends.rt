@@ -7,12 +7,13 @@ ghost use lib.Dec.{leb};
 ghost use lib.ListN.{length};
 ghost use Rattle.tree.specs.Within.{Within};
 ghost use Rattle.rows.specs.Rows.{labelOf, loopOf};
-ghost use Rattle.rows.specs.Kept.{isNowhere, keeps, ofKinds, ofPassed, KeptBut, KeptOf};
+ghost use Rattle.rows.specs.Kept.{isNowhere, keeps, ofKinds, ofPassed, Unlabelled, KeptDown, KeptOf};
 use crate::Each;
 use crate::Loop;
 use crate::Target;
 use crate::quiet::is_quiet;
 use script_records::layout::Layout;
+use script_records::layout::known_row;
 use script_records::part::Part;
 use tree::kind_at;
 use tree::rest_of;
@@ -42,7 +43,24 @@ fn kept(out: bool) -> usize
     if out { 0 } else { 1 }
 }
 
-// How many trees there are but those of the kinds from `low` to `high`. Where each of them ends is left in `scratch`, the last lowest.
+// The first record of a Case or a Default in a part, at whatever depth, or the part's end.
+fn first_label(file: &[u8], l: Layout, p: Part) -> usize
+    requires { ⌜ Within (now file) l p ⌝ }
+    ensures { λ r. ⌜ (p .end - p .n ≤ r) × (r ≤ p .end) × Unlabelled (now (file .entry)) l (p .end - p .n) r ⌝ }
+{
+    let end = p.end;
+    let mut i = end - p.n;
+    while i < end {
+        let row = known_row(file, l, i);
+        if 100 <= row.kind {
+            return i;
+        }
+        i += 1;
+    }
+    i
+}
+
+// How many trees there are that do not end before record `stop`, but those of the kinds from `low` to `high`. Where each of them ends is left in `scratch`, the last lowest.
 fn ends_by_kind(
     file: &[u8],
     l: Layout,
@@ -50,14 +68,16 @@ fn ends_by_kind(
     scratch: &mut [usize],
     low: u32,
     high: u32,
+    stop: usize,
 ) -> usize
     requires { ⌜ Within (now file) l p ⌝ }
     requires { ⌜ p .n ≤ length (now scratch) ⌝ }
-    ensures { λ r. ⌜ KeptBut (now (file .entry)) l (ofKinds (now (file .entry)) l low high) p (now (scratch .exit)) r ⌝ }
+    requires { ⌜ p .end - p .n ≤ stop ⌝ }
+    ensures { λ r. ⌜ KeptDown (now (file .entry)) l (ofKinds (now (file .entry)) l low high) stop p (now (scratch .exit)) r ⌝ }
 {
     let mut left = p;
     let mut top: usize = 0;
-    while left.n != 0 {
+    while stop < left.end {
         scratch[top] = left.end;
         let kind = kind_at(file, l, left);
         let out = is_among(kind, low, high);
@@ -68,7 +88,7 @@ fn ends_by_kind(
     top
 }
 
-// The same but for statements that generate nothing. A large Block is not looked through to its end, since those in it would be looked through again.
+// The same, but for statements that generate nothing. A large Block is not looked through to its end, since those in it would be looked through again.
 fn ends_of_statements(
     file: &[u8],
     l: Layout,
@@ -76,14 +96,16 @@ fn ends_of_statements(
     scratch: &mut [usize],
     breaks: bool,
     continues: bool,
+    stop: usize,
 ) -> usize
     requires { ⌜ Within (now file) l p ⌝ }
     requires { ⌜ p .n ≤ length (now scratch) ⌝ }
-    ensures { λ r. ⌜ KeptBut (now (file .entry)) l (ofPassed (now (file .entry)) l 128 breaks continues) p (now (scratch .exit)) r ⌝ }
+    requires { ⌜ p .end - p .n ≤ stop ⌝ }
+    ensures { λ r. ⌜ KeptDown (now (file .entry)) l (ofPassed (now (file .entry)) l 128 breaks continues) stop p (now (scratch .exit)) r ⌝ }
 {
     let mut left = p;
     let mut top: usize = 0;
-    while left.n != 0 {
+    while stop < left.end {
         scratch[top] = left.end;
         let before = rest_of(file, l, left);
         let out = is_quiet(file, l, left, before.end, breaks, continues);
@@ -133,16 +155,21 @@ pub fn ends_of(
     let next = lp.next;
     let breaks = is_nowhere(exit);
     let continues = is_nowhere(next);
+    let start = p.end - p.n;
     match what {
-        Each::Expr => ends_by_kind(file, l, p, scratch, 48, 48),
-        Each::Discarded => ends_by_kind(file, l, p, scratch, 48, 48),
-        Each::Field => ends_by_kind(file, l, p, scratch, 1, 0),
-        Each::Statement => ends_of_statements(file, l, p, scratch, breaks, continues),
-        Each::Hoisted => ends_of_statements(file, l, p, scratch, breaks, continues),
-        Each::Unhoisted => ends_of_statements(file, l, p, scratch, breaks, continues),
-        Each::Conditional => ends_by_kind(file, l, p, scratch, 0, 99),
+        Each::Expr => ends_by_kind(file, l, p, scratch, 48, 48, start),
+        Each::Discarded => ends_by_kind(file, l, p, scratch, 48, 48, start),
+        Each::Field => ends_by_kind(file, l, p, scratch, 1, 0, start),
+        Each::Statement => ends_of_statements(file, l, p, scratch, breaks, continues, start),
+        Each::Hoisted => ends_of_statements(file, l, p, scratch, breaks, continues, start),
+        Each::Unhoisted => ends_of_statements(file, l, p, scratch, breaks, continues, start),
+        Each::Conditional => {
+            let stop = first_label(file, l, p);
+            ends_by_kind(file, l, p, scratch, 0, 99, stop)
+        }
         Each::Element => {
-            let top = ends_of_statements(file, l, p, scratch, breaks, continues);
+            let stop = first_label(file, l, p);
+            let top = ends_of_statements(file, l, p, scratch, breaks, continues, stop);
             from_label(file, l, p, scratch, lp, top)
         }
     }

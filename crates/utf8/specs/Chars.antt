@@ -44,11 +44,11 @@ isFirst b = ltb b 0x80 || inRange b (0xC2 to 0xF4)
 
 -- whether a char is open after three bytes
 abbrev pub owes : ℕ → ℕ → ℕ → Bool
-owes third second last = leb 0xC0 last || (leb 0xE0 second || leb 0xF0 third)
+owes third prior last = leb 0xC0 last || (leb 0xE0 prior || leb 0xF0 third)
 
 -- whether b can stand after three bytes
 abbrev pub mayFollow : ℕ → ℕ → ℕ → ℕ → Bool
-mayFollow third next last b = cond (owes third next last) (inRange b (second last)) (isFirst b)
+mayFollow third prior last b = cond (owes third prior last) (inRange b (second last)) (isFirst b)
 
 -- each of the n bytes from i + 3 on can stand after the three before it
 pub record Follows (s : List ℕ) (i n : ℕ) : Type 0 where

@@ -19,25 +19,25 @@ fn is_first(b: u8) -> bool
 }
 
 // Whether a char is open after three bytes.
-fn is_owed(third: u8, second: u8, last: u8) -> bool
-    ensures { λ r. ⌜ r ≡ owes third second last ⌝ }
+fn is_owed(third: u8, prior: u8, last: u8) -> bool
+    ensures { λ r. ⌜ r ≡ owes third prior last ⌝ }
 {
     if 0xC0 <= last {
         return true;
     }
-    if 0xE0 <= second {
+    if 0xE0 <= prior {
         return true;
     }
     0xF0 <= third
 }
 
 // Whether a byte can stand after three bytes. Both answers are there before the choice, so that the compiler can do this for many bytes at once.
-fn may_follow(third: u8, second: u8, last: u8, b: u8) -> bool
-    ensures { λ r. ⌜ r ≡ mayFollow third second last b ⌝ }
+fn may_follow(third: u8, prior: u8, last: u8, b: u8) -> bool
+    ensures { λ r. ⌜ r ≡ mayFollow third prior last b ⌝ }
 {
     let goes_on = is_second(last, b);
     let starts = is_first(b);
-    if is_owed(third, second, last) {
+    if is_owed(third, prior, last) {
         goes_on
     } else {
         starts
