@@ -120,6 +120,7 @@ fn idle() -> Vec<Shape> {
         ("26,000 Voids returned", again(58, vec![node(RETURN, [list(voids(26_000))])])),
         ("a switch with 50,000 Breaks before its case", again(58, with_case(breaks(50_000), 50_000))),
         ("a switch with 25,000 plays before its case", again(58, with_case(vec![run(node(PLAY, [])); 25_000], 25_000))),
+        ("a switch with a block of 50,000 Breaks before its case", again(58, with_case(vec![block(breaks(50_000))], 1))),
         ("a switch with 16,600 Voids before its case", again(58, with_case(void_statements(), 16_600))),
         ("a switch with 16,600 Voids after its case", again(58, with_case(void_statements(), 0))),
     ]

@@ -11,7 +11,7 @@ use lib.ListN.{length, getD, set, length-set}
 use lib.Seq.{getD-set-same, getD-set-other}
 use Rattle.script_records.specs.declared.layout.Layout.{Layout}
 use Rattle.script_records.specs.declared.part.Part.{Part}
-use Rattle.script_records.specs.Layout.{rowsOf, rowIn}
+use Rattle.script_records.specs.Layout.{layoutOf, rowsOf, rowIn, HasRow}
 use Rattle.script_records.proofs.Trees.{span-le}
 use Rattle.hir.specs.Tree.{Forest}
 use Rattle.lowering.specs.Builder.{_>>_}
@@ -282,6 +282,10 @@ module _ (F : List ℕ) (l : Layout) (lp : Loop) (lo : ℕ) (x : List ℕ) (last
       let n = unlabelled F l (upto lo (getD x u 0)) (c .3) (rw sub-one at h) in
       let t = tree-idle F l lo (getD x u 0) (c .3) (c .0 .up) (c .1) Element lp (λ f d. rw (n, none-before (c .0)) after-done) n in
       rw sub-one (kept-skip F l Element lp lo x u lo _ last (idle-then (c .0) t) (c .4))
+
+-- the record behind a part
+pub row-behind : (F : List ℕ) (l : Layout) (p : Part) → Within F l p → p .end < l .count → HasRow F l (p .end)
+row-behind F l p w h = let k : p .end < layoutOf F .count = rw (w .layout) at h in rw (w .layout) (k, omega (arith, w .sound .areas))
 
 pub unlabelled-more : (F : List ℕ) (l : Layout) (lo i : ℕ) → Unlabelled F l lo i → rowIn (rowsOf F l) i .kind < 100 → Unlabelled F l lo (i + 1)
 unlabelled-more F l lo i u h = record { each = λ k a z. by-test k a z (eqb k i) refl }

@@ -43,13 +43,29 @@ fn kept(out: bool) -> usize
     if out { 0 } else { 1 }
 }
 
-// The first record of a Case or a Default in a part, at whatever depth, or the part's end.
+// How far a row is scanned for its first label: to its end where most of its trees have no more than three records, so that a scan is quicker than a walk, and
+// else not at all. The record behind a row is that of its list, which counts the trees.
+fn scan_end(file: &[u8], l: Layout, p: Part) -> usize
+    requires { ⌜ Within (now file) l p ⌝ }
+    ensures { λ r. ⌜ (p .end - p .n ≤ r) × (r ≤ p .end) ⌝ }
+{
+    let end = p.end;
+    if end < l.count as usize {
+        let list = known_row(file, l, end);
+        if p.n / 3 <= list.a as usize {
+            return end;
+        }
+    }
+    end - p.n
+}
+
+// The first record of a Case or a Default in a part, at whatever depth, or where the scan ends.
 fn first_label(file: &[u8], l: Layout, p: Part) -> usize
     requires { ⌜ Within (now file) l p ⌝ }
     ensures { λ r. ⌜ (p .end - p .n ≤ r) × (r ≤ p .end) × Unlabelled (now (file .entry)) l (p .end - p .n) r ⌝ }
 {
-    let end = p.end;
-    let mut i = end - p.n;
+    let end = scan_end(file, l, p);
+    let mut i = p.end - p.n;
     while i < end {
         let row = known_row(file, l, i);
         if 100 <= row.kind {

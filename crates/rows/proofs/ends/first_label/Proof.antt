@@ -15,17 +15,20 @@ Inv-loop file l end i₀ i = (i₀ ≤ i) × (i ≤ end) × Unlabelled file l i�
 abbrev μ-loop : tie.MeasureT-loop
 μ-loop file l end i₀ i = end - i
 
+scan-end-requires : tie.Need-scan-end-requires Inv-loop μ-loop
+scan-end-requires c κs = c .before .pre
+
 sub-i : tie.Need-sub-i Inv-loop μ-loop
-sub-i c = omega (arith, c .before .before .pre .inside)
+sub-i c = omega (arith, c .before .before .before .pre .inside)
 
 loop-holds : tie.Need-loop-holds Inv-loop μ-loop
-loop-holds c = (omega arith, omega arith, record { each = λ k a z. absurd (omega arith) })
+loop-holds c = (omega arith, omega (arith, c .before .scan-end .ensures .0), record { each = λ k a z. absurd (omega arith) })
 
 known-row-requires : tie.Need-known-row-requires Inv-loop μ-loop
-known-row-requires c κs = row-known _ _ _ (c .before .before .before .before .pre) _ (omega arith)
+known-row-requires c κs = row-known _ _ _ (c .before .before .before .before .before .pre) _ (omega (arith, c .before .before .before .scan-end .ensures .1))
 
 returns : tie.Need-returns Inv-loop μ-loop
-returns c = let n = c .before .before .before .before .loop .inv in (n .0, n .1, n .2)
+returns c = let n = c .before .before .before .before .loop .inv in (n .0, omega (arith, n .1, c .before .before .before .before .before .before .scan-end .ensures .1), n .2)
 
 add-i : tie.Need-add-i Inv-loop μ-loop
 add-i c = omega arith
@@ -39,7 +42,7 @@ loop-again c =
     (omega arith, omega arith, unlabelled-more _ _ _ _ (n .2) (omega (arith, ap (λ (r : Row). r .kind) (c .before .before .known-row .ensures), c .if1 .left)))
 
 returns-2 : tie.Need-returns-2 Inv-loop μ-loop
-returns-2 c = let n = c .before .loop .inv in (n .0, n .1, n .2)
+returns-2 c = let n = c .before .loop .inv in (n .0, omega (arith, n .1, c .before .before .before .scan-end .ensures .1), n .2)
 
 pub first-label-spec : {M : Type 1} → statement M
 first-label-spec =
@@ -47,6 +50,7 @@ first-label-spec =
     (tie.spec
     Inv-loop
     μ-loop
+    scan-end-requires
     sub-i
     loop-holds
     known-row-requires
