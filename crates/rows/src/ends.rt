@@ -43,7 +43,7 @@ fn kept(out: bool) -> usize
     if out { 0 } else { 1 }
 }
 
-// How far a row is scanned for its first label: to its end where most of its trees have no more than three records, so that a scan is quicker than a walk, and
+// How far a row is scanned for its first label: to its end where its trees have three records or fewer on average, so that a scan is quicker than a walk, and
 // else not at all. The record behind a row is that of its list, which counts the trees.
 fn scan_end(file: &[u8], l: Layout, p: Part) -> usize
     requires { ⌜ Within (now file) l p ⌝ }
