@@ -1,15 +1,20 @@
 //! The verified static library's answers as text, from slices that are full of ones before each call.
 
 use crate::{LIMITS, LIST_WORDS, WIDE_ROOM, answer, check, list_slice};
-use rascal_verified::{compile_into, read_into};
+use rascal_verified::{WORK_WORDS, compile_into, read_into};
 
+/// In a list slice of one or the other length, by the file's length, since lowering works in the slice itself if it can.
 pub fn compiled(file: &[u8]) -> String {
-    let (mut words, mut output) = (vec![u32::MAX; LIST_WORDS], vec![u8::MAX; WIDE_ROOM]);
+    let list_words = if file.len() % 8 < 4 { LIST_WORDS } else { WORK_WORDS };
+    let (mut words, mut output) = (vec![u32::MAX; list_words], vec![u8::MAX; WIDE_ROOM]);
     match compile_into(file, &mut words, &mut output) {
         Ok(length) => {
             let rest = output.split_off(length);
+            let behind = words.split_off(LIST_WORDS);
             let lists = check::check(file).ok().and_then(|script| list_slice::compiled(LIMITS, &words, &script));
-            lists.filter(|_| is_zeros(&rest)).map_or_else(not_laid_out, |lists| answer::compiled(&Ok((lists, output))))
+            lists
+                .filter(|_| is_zeros(&rest) && is_zeros(&behind))
+                .map_or_else(not_laid_out, |lists| answer::compiled(&Ok((lists, output))))
         }
         Err(refusal) if is_zeros(&words) && is_zeros(&output) => answer::compiled(&Err(refusal.number)),
         Err(_) => not_laid_out(),

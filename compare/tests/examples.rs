@@ -67,6 +67,7 @@ mod library {
     use compare::generated::{Kind, files};
     use compare::sides::Sides;
     use compare::{LIMITS, check, list_slice};
+    use rascal_verified::WORK_WORDS;
 
     #[test]
     fn the_library_on_every_example() {
@@ -90,6 +91,22 @@ mod library {
             let mut words = vec![1; LIST_WORDS - 1];
             assert_eq!(rascal_verified::compile_into(&script, &mut words, &mut [1; ROOM]), Err(Refusal::new(13)), "{name}");
             assert_eq!(rascal_verified::read_into(&compiled.bytes, &mut words), Err(Refusal::new(13)), "{name}");
+        }
+    }
+
+    #[test]
+    fn list_slices_of_any_length() {
+        for (name, script, _) in examples() {
+            let compiled = |length: usize| {
+                let (mut words, mut output) = (vec![1; length], vec![1; ROOM]);
+                let answer = rascal_verified::compile_into(&script, &mut words, &mut output);
+                assert!(words.split_off(LIST_WORDS).iter().all(|&word| word == 0), "{name}");
+                (answer, words, output)
+            };
+            let least = compiled(LIST_WORDS);
+            for length in [LIST_WORDS + 1, WORK_WORDS - 1, WORK_WORDS, WORK_WORDS + 1] {
+                assert_eq!(compiled(length), least, "{name}");
+            }
         }
     }
 

@@ -1,6 +1,6 @@
 //! The C functions of the static library, and the two calls over them.
 
-use crate::{Compiled, LIST_WORDS, Refusal};
+use crate::{Compiled, LIST_WORDS, Refusal, WORK_WORDS};
 
 // Each slice is its first element and its length; what is lent may not overlap. The word returned is the length, or `u64::MAX` less the refusal's number
 // (crates/rascal/src/exports.rt).
@@ -40,9 +40,10 @@ pub fn read_into(bytes: &[u8], lists: &mut [u32]) -> Result<usize, Refusal> {
 
 /// Compiles a script file into an output of this many bytes at most.
 pub fn compile_within(file: &[u8], room: usize) -> Result<Compiled, Refusal> {
-    let mut lists = vec![0; LIST_WORDS];
+    let mut lists = vec![0; WORK_WORDS];
     let mut bytes = vec![0; room];
     let length = compile_into(file, &mut lists, &mut bytes)?;
+    lists.truncate(LIST_WORDS);
     bytes.truncate(length);
     Ok(Compiled { bytes, lists })
 }

@@ -69,6 +69,9 @@ fn shapes() -> Vec<Shape> {
         shape("10 actions", &FEW, common(10)),
         shape("100 actions", &FEW, common(100)),
         shape("1,000 actions", &FEW, common(1_000)),
+        shape("100 actions, each a play", &NONE, vec![run(node(PLAY, [])); 99]),
+        shape("100 actions, names that are popped", &FEW, vec![run(name(0)); 33]),
+        shape("100 actions, assignments of a number", &FEW, vec![run(assign(name(0), integer(1))); 33]),
         shape("full pool: 1,820 strings of 35 bytes", &strings, pushes),
         shape("2,048 values", &NONE, array(vec![integer(7); 2_047])),
         shape("1 MiB of records", &NONE, vec![node(BREAK, []); 52_426]),
@@ -155,6 +158,7 @@ fn strings() -> Vec<Shape> {
         unused("three-byte characters", "\u{5b57}".repeat(349_000)),
         unused("four-byte characters", "\u{1f600}".repeat(262_000)),
         unused("text, each hundredth character of two bytes", ("a".repeat(99) + "\u{e9}").repeat(10_300)),
+        unused("text, each two-hundredth character of two bytes", ("a".repeat(199) + "\u{e9}").repeat(5_150)),
         unused("text, each fortieth character of two bytes", ("a".repeat(39) + "\u{e9}").repeat(25_500)),
         unused("text, each fortieth character of four bytes", ("a".repeat(39) + "\u{1f600}").repeat(24_300)),
         unused("text, two neighbours in eighty characters of two bytes", ("a".repeat(78) + "\u{e9}\u{e9}").repeat(12_750)),
@@ -217,7 +221,7 @@ fn best<T>(mut work: impl FnMut() -> T) -> f64 {
 
 #[cfg(feature = "verified")]
 fn verified(file: &[u8], room: usize) -> String {
-    let (mut lists, mut output) = (vec![0; LIST_WORDS], vec![0; room]);
+    let (mut lists, mut output) = (vec![0; rascal_verified::WORK_WORDS], vec![0; room]);
     shown(best(|| rascal_verified::compile_into(file, &mut lists, &mut output)))
 }
 

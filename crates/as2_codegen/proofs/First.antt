@@ -28,19 +28,19 @@ zeros-at n i = zero-at n i
 
 abbrev pub begun : CodeBuilder
 begun = record {
-  refused = 0;
   actions = 1;
+  size = 0;
+  refused = 0;
   values = 0;
+  low = 0;
+  top = 4095;
+  base = 4096;
   labels = 0;
   marks = 0;
   constants = 0;
   total = 2;
   lists = 0;
-  size = 0;
   sizes = 0;
-  low = 0;
-  top = 4095;
-  base = 4096;
 }
 
 module _ (w : List ℕ) (long : 20480 ≤ length w) (zeros : w ≡ zerosOf (length w)) where

@@ -29,11 +29,11 @@ use Rattle.tree.proofs.Accepted.{statementsIn, accepted-within, accepted-trees}
 use Rattle.statement.specs.Walk.{Walk}
 use Rattle.rows.specs.declared.Loop.{Loop}
 use Rattle.rows.specs.Rows.{loopOf}
-use Rattle.builder.specs.Places.{finished}
+use Rattle.builder.specs.Places.{Copied, finished}
 use Rattle.builder.proofs.Body.{top-base}
 use Rattle.as2_codegen.specs.declared.Lowered.the-variants as lowered
 use Rattle.as2_codegen.specs.Begin.{Begun, statementsPart, Generating}
-use Rattle.as2_codegen.specs.Lowering.{Lowers}
+use Rattle.as2_codegen.specs.Lowering.{Lowers, Generated}
 
 -- the statements' part has room in a scratch slice of as many words
 pub walk : {F : List ℕ} {l : Layout} {p : Part} {b : CodeBuilder} {w : List ℕ} {room : ℕ} → Generating F l p b w → p .n ≤ room → Walk F l p b w room
@@ -71,26 +71,21 @@ module _ (F : List ℕ) (r : CodeBuilder) (w : List ℕ) (x : Waiting) where
 refuses : (F : List ℕ) (n number : ℕ) → loweredWith limits01 F n ≡ refusal number → Lowers limits01 F n (lowered.Refused number) (zerosOf n)
 refuses F n number e = record { answer = rw e; number = rw e; list-length = zeros-length n; whole-list = rw e (zeros-zeros n) }
 
-module _ (F : List ℕ) (accepted : checkOf F ≡ 0) where
-  module _ (l : Layout) (p : Part) (is-layout : l ≡ layoutOf F) (is-part : p ≡ statementsPart l) where
-    all-statements : p ≡ statementsIn F
-    all-statements = is-part ∙ ap statementsPart is-layout
+module _ (F : List ℕ) (accepted : checkOf F ≡ 0) (l : Layout) (p : Part) (is-layout : l ≡ layoutOf F) (is-part : p ≡ statementsPart l) where
+  all-statements : p ≡ statementsIn F
+  all-statements = is-part ∙ ap statementsPart is-layout
 
-    pub generating : (b : CodeBuilder) (w : List ℕ) → Begun F b w → Generating F l p b w
-    generating b w g = record { within = rw (is-layout, all-statements) (accepted-within F accepted); fine = g .fine; named = g .named }
-
-    pub of-statements : (b : CodeBuilder) (w : List ℕ) (r : CodeBuilder) (w′ : List ℕ) → Does F (gen-statements no-loop (meaningsAt F p)) b w tt r w′ →
-        Does F (gen-statements no-loop (meaningsAt F (statementsIn F))) b w tt r w′
-    of-statements b w r w′ d = rw all-statements at d
+  pub generating : (b : CodeBuilder) (w : List ℕ) → Begun F b w → Generating F l p b w
+  generating b w g = record { within = rw (is-layout, all-statements) (accepted-within F accepted); fine = g .fine; named = g .named }
 
   module _ (b : CodeBuilder) (w : List ℕ) (g : Begun F b w) (r : CodeBuilder) (w′ : List ℕ)
-      (d : Does F (gen-statements no-loop (meaningsAt F (statementsIn F))) b w tt r w′) where
+      (d : Does F (gen-statements no-loop (meaningsAt F p)) b w tt r w′) where
     abbrev generated : Result (Unit {0})
     generated = gen-statements no-loop (meaningsAt F (statementsIn F)) (start limits01)
 
     same : held F tt r w′ ≡ back (waiting b w) generated
     unfolding after carry
-    same = d .same ∙ rw (held-holds F (tt {0}) b w (g .unrefused), g .starts)
+    same = (rw all-statements at d) .same ∙ rw (held-holds F (tt {0}) b w (g .unrefused), g .starts)
 
     result : listsOf limits01 F ≡ finish generated
     unfolding script-to-actions generate-actions
@@ -103,20 +98,22 @@ module _ (F : List ℕ) (accepted : checkOf F ≡ 0) where
     refusal-is h = result ∙ refusal-at F r w′ (waiting b w) generated same h
 
     pub base-is : r .refused ≡ 0 → r .base ≡ 4096
-    base-is h = top-base F (gen-statements no-loop (meaningsAt F (statementsIn F))) b r w w′ (g .base) d h
+    base-is h = top-base F (gen-statements no-loop (meaningsAt F p)) b r w w′ (g .base) d h
 
-    module _ (n : ℕ) (room : 16384 ≤ n) where
-      lowered-is : loweredWith limits01 F n ≡ listsOf limits01 F
-      unfolding loweredWith
-      lowered-is = rw (le-ltb n 16384 room, accepted)
+    lowered-is : (n : ℕ) → 16384 ≤ n → loweredWith limits01 F n ≡ listsOf limits01 F
+    unfolding loweredWith
+    lowered-is n room = rw (le-ltb n 16384 room, accepted)
 
-      pub lowers-lists : (w″ : List ℕ) → r .refused ≡ 0 → length w″ ≡ n → Holds limits01 F (finished (state F r w′)) w″ → Lowers limits01 F n lowered.Lists w″
-      lowers-lists w″ h l k =
-          let e : loweredWith limits01 F n ≡ lists (finished (state F r w′)) = lowered-is ∙ lists-are h in
-          record { answer = rw e; number = rw e; list-length = l; whole-list = rw e k }
+    lowers-lists : r .refused ≡ 0 → (v : List ℕ) → 16384 ≤ length v → Holds limits01 F (finished (state F r w′)) v → Lowers limits01 F (length v) lowered.Lists v
+    lowers-lists h v room k =
+        let e : loweredWith limits01 F (length v) ≡ lists (finished (state F r w′)) = lowered-is (length v) room ∙ lists-are h in
+        record { answer = rw e; number = rw e; list-length = refl; whole-list = rw e k }
 
-      pub lowers-refusal : {v : List ℕ} → v ≡ zerosOf n → (r .refused ≡ 0 → ⊥) → Lowers limits01 F n (lowered.Refused (r .refused)) v
-      lowers-refusal e h = rw e (refuses F n (r .refused) (lowered-is ∙ refusal-is h))
+    pub generated-lists : (w″ : List ℕ) → r .refused ≡ 0 → ((v : List ℕ) → Copied w″ v → Holds limits01 F (finished (state F r w′)) v) → Generated F 0 w″
+    generated-lists w″ h k = record { lists = λ e v c. lowers-lists h v (c .room) (k v c); refused = λ e. absurd (e refl) }
+
+    pub generated-refusal : (w″ : List ℕ) → (r .refused ≡ 0 → ⊥) → Generated F (r .refused) w″
+    generated-refusal w″ h = record { lists = λ e. absurd (h e); refused = λ e n room. refuses F n (r .refused) (lowered-is n room ∙ refusal-is h) }
 
 -- the refusals before any statement
 

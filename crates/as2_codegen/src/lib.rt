@@ -11,7 +11,7 @@ ghost use Rattle.list_slice.specs.Words.{zerosOf};
 ghost use Rattle.codegen_state.specs.Does.{Does};
 ghost use Rattle.tree.specs.Within.{meaningsAt};
 ghost use Rattle.builder.specs.Places.{Copied};
-ghost use Rattle.as2_codegen.specs.Lowering.{Lowers};
+ghost use Rattle.as2_codegen.specs.Lowering.{Lowers, Generated};
 ghost use Rattle.as2_codegen.specs.Begin.{Begun, statementsPart, Generating};
 use builder::entries::put;
 use builder::finish::into_actions;
@@ -51,19 +51,19 @@ fn begin(list: &mut [u32]) -> CodeBuilder
 {
     put(list, 4095, 0x88, 0, 0);
     CodeBuilder {
-        refused: 0,
         actions: 1,
+        size: 0,
+        refused: 0,
         values: 0,
+        low: 0,
+        top: 4095,
+        base: 4096,
         labels: 0,
         marks: 0,
         constants: 0,
         total: 2,
         lists: 0,
-        size: 0,
         sizes: 0,
-        low: 0,
-        top: 4095,
-        base: 4096,
     }
 }
 
@@ -82,6 +82,21 @@ fn statements_of(l: Layout) -> Part
 }
 
 // Few records need little scratch, which takes less time to clear.
+fn with_tiny(
+    file: &[u8],
+    l: Layout,
+    p: Part,
+    b: CodeBuilder,
+    list: &mut [u32],
+    scratch: &mut [usize; 256],
+) -> CodeBuilder
+    requires { ⌜ Generating (now file) l p b (now list) ⌝ }
+    requires { ⌜ p .n ≤ 256 ⌝ }
+    ensures { λ r. ⌜ Does (now (file .entry)) (gen-statements no-loop (meaningsAt (now (file .entry)) p)) b (now (list .entry)) tt r (now (list .exit)) ⌝ }
+{
+    gen_statements(file, l, p, b, list, scratch, no_loop())
+}
+
 fn with_small(
     file: &[u8],
     l: Layout,
@@ -109,6 +124,15 @@ fn with_large(
     ensures { λ r. ⌜ Does (now (file .entry)) (gen-statements no-loop (meaningsAt (now (file .entry)) p)) b (now (list .entry)) tt r (now (list .exit)) ⌝ }
 {
     gen_statements(file, l, p, b, list, scratch, no_loop())
+}
+
+fn tiny(file: &[u8], l: Layout, p: Part, b: CodeBuilder, list: &mut [u32]) -> CodeBuilder
+    requires { ⌜ Generating (now file) l p b (now list) ⌝ }
+    requires { ⌜ p .n ≤ 256 ⌝ }
+    ensures { λ r. ⌜ Does (now (file .entry)) (gen-statements no-loop (meaningsAt (now (file .entry)) p)) b (now (list .entry)) tt r (now (list .exit)) ⌝ }
+{
+    let mut scratch = [0usize; 256];
+    with_tiny(file, l, p, b, list, &mut scratch)
 }
 
 fn small(file: &[u8], l: Layout, p: Part, b: CodeBuilder, list: &mut [u32]) -> CodeBuilder
@@ -141,7 +165,26 @@ fn generate_actions(
     if 4096 < p.n {
         return large(file, l, p, b, list);
     }
-    small(file, l, p, b, list)
+    if 256 < p.n {
+        return small(file, l, p, b, list);
+    }
+    tiny(file, l, p, b, list)
+}
+
+// The statements are generated into words of zeros, which take in the pool's index behind those of the list slice: 0, or the refusal.
+fn generate(file: &[u8], l: Layout, p: Part, words: &mut [u32]) -> u32
+    requires { ⌜ checkOf (now file) ≡ 0 ⌝ }
+    requires { ⌜ (l ≡ layoutOf (now file)) × (p ≡ statementsPart l) ⌝ }
+    requires { ⌜ (20480 ≤ length (now words)) × (now words ≡ zerosOf (length (now words))) ⌝ }
+    ensures { λ r. ⌜ Generated (now (file .entry)) r (now (words .exit)) ⌝ }
+{
+    let b = begin(words);
+    let done = generate_actions(file, l, p, b, words);
+    if done.refused != 0 {
+        return done.refused;
+    }
+    into_actions(words, done);
+    0
 }
 
 // The words of the list slice, without the pool's index behind them.
@@ -157,36 +200,78 @@ fn copy(work: &[u32; 20480], list: &mut [u32])
     }
 }
 
-// Lowering works with more words than the list slice has. After a refusal the slice stays as it is.
-fn with_words(file: &[u8], l: Layout, p: Part, work: &mut [u32; 20480], list: &mut [u32]) -> Lowered
+// The same where they stand.
+fn clear_index(list: &mut [u32])
+    requires { ⌜ 16384 ≤ length (now list) ⌝ }
+    ensures { λ r. ⌜ Copied (now (list .entry)) (now (list .exit)) ⌝ }
+{
+    let mut i: usize = 16384;
+    while i < list.len() {
+        list[i] = 0;
+        i += 1;
+    }
+}
+
+// In words beside the list slice. After a refusal the slice stays as it is.
+fn generate_beside(
+    file: &[u8],
+    l: Layout,
+    p: Part,
+    work: &mut [u32; 20480],
+    list: &mut [u32],
+) -> Lowered
     requires { ⌜ checkOf (now file) ≡ 0 ⌝ }
     requires { ⌜ (l ≡ layoutOf (now file)) × (p ≡ statementsPart l) ⌝ }
     requires { ⌜ now work ≡ zerosOf 20480 ⌝ }
-    requires { ⌜ 16384 ≤ length (now list) ⌝ }
-    requires { ⌜ now list ≡ zerosOf (length (now list)) ⌝ }
+    requires { ⌜ (16384 ≤ length (now list)) × (now list ≡ zerosOf (length (now list))) ⌝ }
     ensures { λ r. ⌜ Lowers limits01 (now (file .entry)) (length (now (list .entry))) r (now (list .exit)) ⌝ }
 {
-    let b = begin(work);
-    let done = generate_actions(file, l, p, b, work);
-    if done.refused != 0 {
-        return Lowered::Refused(done.refused);
+    let number = generate(file, l, p, work);
+    if number != 0 {
+        return Lowered::Refused(number);
     }
-    into_actions(work, done);
     copy(work, list);
     Lowered::Lists
 }
 
-// An accepted file, and a slice of zeros.
+// In the list slice itself.
+fn generate_in_place(file: &[u8], l: Layout, p: Part, list: &mut [u32]) -> Lowered
+    requires { ⌜ checkOf (now file) ≡ 0 ⌝ }
+    requires { ⌜ (l ≡ layoutOf (now file)) × (p ≡ statementsPart l) ⌝ }
+    requires { ⌜ (20480 ≤ length (now list)) × (now list ≡ zerosOf (length (now list))) ⌝ }
+    ensures { λ r. ⌜ Lowers limits01 (now (file .entry)) (length (now (list .entry))) r (now (list .exit)) ⌝ }
+{
+    let number = generate(file, l, p, list);
+    if number != 0 {
+        clear_words(list);
+        return Lowered::Refused(number);
+    }
+    clear_index(list);
+    Lowered::Lists
+}
+
+fn with_words(file: &[u8], l: Layout, p: Part, list: &mut [u32]) -> Lowered
+    requires { ⌜ checkOf (now file) ≡ 0 ⌝ }
+    requires { ⌜ (l ≡ layoutOf (now file)) × (p ≡ statementsPart l) ⌝ }
+    requires { ⌜ (16384 ≤ length (now list)) × (now list ≡ zerosOf (length (now list))) ⌝ }
+    ensures { λ r. ⌜ Lowers limits01 (now (file .entry)) (length (now (list .entry))) r (now (list .exit)) ⌝ }
+{
+    let mut work = [0u32; 20480];
+    generate_beside(file, l, p, &mut work, list)
+}
+
+// An accepted file, and a slice of zeros. Lowering needs more words than the list slice must have; where they are not lent, it works beside the slice.
 fn lower(file: &[u8], list: &mut [u32]) -> Lowered
     requires { ⌜ checkOf (now file) ≡ 0 ⌝ }
-    requires { ⌜ 16384 ≤ length (now list) ⌝ }
-    requires { ⌜ now list ≡ zerosOf (length (now list)) ⌝ }
+    requires { ⌜ (16384 ≤ length (now list)) × (now list ≡ zerosOf (length (now list))) ⌝ }
     ensures { λ r. ⌜ Lowers limits01 (now (file .entry)) (length (now (list .entry))) r (now (list .exit)) ⌝ }
 {
     let l = layout_of(file);
     let p = statements_of(l);
-    let mut work = [0u32; 20480];
-    with_words(file, l, p, &mut work, list)
+    if list.len() < 20480 {
+        return with_words(file, l, p, list);
+    }
+    generate_in_place(file, l, p, list)
 }
 
 // A file of any content: its lists, or the one refusal among 13, 4, 1, 2, 3, 4, 5, 6, 7, 8, after which the slice has only zeros.

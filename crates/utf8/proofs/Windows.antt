@@ -1,7 +1,7 @@
 -- Bytes of which each can stand after the three before it are whole chars, but for one that is open at their end.
 -- Assumes nothing.
-use mathlib.Core.Path.{_≡_, refl, sym, _∙_, ap, subst}
-use mathlib.Core.Bool.{true, false, cond}
+use mathlib.Core.Path.{_≡_, refl, sym, _∙_, ap, ap₂, subst}
+use mathlib.Core.Bool.{true, false, cond, _||_, false≢true}
 use mathlib.Core.List.{List, [], _∷_}
 use mathlib.Core.Option.{some, Option·elim}
 use Prim.Native.Nat.{ℕ, zero, suc, _+_, _-_, _≤_, _<_}
@@ -11,9 +11,30 @@ use lib.ListN.{length, getD, drop}
 use borrow.Author.Count.{below-none, below-more}
 use borrow.Author.Tests.{eqb-true, eqb-false, leb-true, leb-false, ltb-true, ltb-false, le-leb, lt-leb, lt-ltb, le-ltb, ne-eqb}
 use Rattle.utf8.specs.Utf8.{Range, _to_, tail, inRange, next, completes}
-use Rattle.utf8.specs.Chars.{from, Passed, second, isFirst, mayFollow, Follows, lastStart}
+use Rattle.utf8.specs.Chars.{from, Ascii, second, isFirst, owes, mayFollow, Follows, lastStart, Closed, Past}
 use Rattle.utf8.proofs.Forms.{by-test, more, second-tail, opened, starts}
 use Rattle.utf8.proofs.Reading.{byte, bounds}
+
+larger-leb : (n a b : ℕ) → leb n (cond (ltb a b) b a) ≡ (leb n a || leb n b)
+larger-leb n a b =
+    by-test (ltb a b)
+    (λ t. simp t (by-test (leb n a) (λ u. simp u (le-leb n b (omega (arith, ltb-true, leb-true)))) (λ u. simp u refl)))
+    (λ t.
+    simp t
+    (by-test (leb n a) (λ u. simp u refl)
+    (λ u. simp (u, lt-leb n b (omega (arith, ltb-false, leb-false))) refl)))
+
+less-leb : (n by b : ℕ) → 0 < n → leb n (b - by) ≡ leb (n + by) b
+less-leb n by b h =
+    by-test (leb (n + by) b) (λ t. simp t (le-leb n (b - by) (omega (arith, leb-true))))
+    (λ t. simp t (lt-leb n (b - by) (omega (arith, leb-false))))
+
+-- one comparison for three bytes
+pub owed-one : (third prior last x y m r : ℕ) → x ≡ prior - 0x20 → y ≡ third - 0x30 → m ≡ cond (ltb x y) y x → r ≡ cond (ltb last m) m last → leb 0xC0 r ≡ owes third prior last
+owed-one third prior last x y m r ex ey em er =
+    ap (leb 0xC0) er
+    ∙ larger-leb 0xC0 last m
+    ∙ ap (λ t. leb 0xC0 last || t) (ap (leb 0xC0) em ∙ larger-leb 0xC0 x y ∙ ap₂ _||_ (ap (leb 0xC0) ex ∙ less-leb 0xC0 0x20 prior (omega arith)) (ap (leb 0xC0) ey ∙ less-leb 0xC0 0x30 third (omega arith)))
 
 -- what is owed after three bytes
 abbrev owing : ℕ → ℕ → ℕ → List Range
@@ -131,19 +152,12 @@ follows-on {s} {i} {j} n h f g =
 abbrev owing-at : List ℕ → ℕ → List Range
 owing-at s i = owing (getD s i 0) (getD s (i + 1) 0) (getD s (i + 2) 0)
 
--- no char is open at i + 3
-abbrev Closed : List ℕ → ℕ → Type 0
-Closed s i = (getD s (i + 2) 0 < 0xC0) × (getD s (i + 1) 0 < 0xE0) × (getD s i 0 < 0xF0)
+-- no char is open at i + 3, byte by byte
+abbrev Shut : List ℕ → ℕ → Type 0
+Shut s i = (getD s (i + 2) 0 < 0xC0) × (getD s (i + 1) 0 < 0xE0) × (getD s i 0 < 0xF0)
 
-pub last-start-le : (s : List ℕ) (i : ℕ) → lastStart s i ≤ i + 3
-last-start-le s i =
-    by-test (leb 0xC0 (getD s (i + 2) 0)) (λ t. simp t (omega arith))
-    (λ t.
-    by-test (leb 0xE0 (getD s (i + 1) 0)) (λ u. simp (t, u) (omega arith))
-    (λ u. by-test (leb 0xF0 (getD s i 0)) (λ v. simp (t, u, v) (omega arith)) (λ v. simp (t, u, v) (omega arith))))
-
-closed-at : (s : List ℕ) (i : ℕ) → lastStart s i ≡ i + 3 → Closed s i
-closed-at s i e =
+shut-at : (s : List ℕ) (i : ℕ) → lastStart s i ≡ i + 3 → Shut s i
+shut-at s i e =
     by-test (leb 0xC0 (getD s (i + 2) 0)) (λ t. let f : i + 2 ≡ i + 3 = simp t at e in absurd (omega arith))
     (λ t.
     by-test (leb 0xE0 (getD s (i + 1) 0)) (λ u. let f : i + 1 ≡ i + 3 = simp (t, u) at e in absurd (omega arith))
@@ -151,7 +165,37 @@ closed-at s i e =
     by-test (leb 0xF0 (getD s i 0)) (λ v. let f : i ≡ i + 3 = simp (t, u, v) at e in absurd (omega arith))
     (λ v. (leb-false 0xC0 _ t, leb-false 0xE0 _ u, leb-false 0xF0 _ v))))
 
-module _ (s : List ℕ) (i : ℕ) (c : Closed s i) where
+pub last-start-shut : (s : List ℕ) (i : ℕ) → owes (getD s i 0) (getD s (i + 1) 0) (getD s (i + 2) 0) ≡ false → lastStart s i ≡ i + 3
+last-start-shut s i e =
+    by-test (leb 0xC0 (getD s (i + 2) 0)) (λ t. absurd (false≢true (sym (simp t at e))))
+    (λ t.
+    by-test (leb 0xE0 (getD s (i + 1) 0)) (λ u. absurd (false≢true (sym (simp (t, u) at e))))
+    (λ u. let v : leb 0xF0 (getD s i 0) ≡ false = simp (t, u) at e in simp (t, u, v)))
+
+closed-by : (s : List ℕ) (i j : ℕ) → j ≡ i + 3 → lastStart s i ≡ j → Closed s j
+closed-by s i j h l = record { none = λ m e. let d : m ≡ i = omega arith in rw d l }
+
+closed-shut : (s : List ℕ) (i j : ℕ) → j ≡ i + 3 → Shut s i → Closed s j
+closed-shut s i j h c = closed-by s i j h (simp (lt-leb 0xC0 _ (c .0), lt-leb 0xE0 _ (c .1), lt-leb 0xF0 _ (c .2)) (sym h))
+
+pub closed-early : (s : List ℕ) (i : ℕ) → i < 3 → Closed s i
+closed-early s i h = record { none = λ j e. absurd (omega arith) }
+
+pub closed-tested : (s : List ℕ) (i : ℕ) → 3 ≤ i → lastStart s (i - 3) ≡ i → Closed s i
+closed-tested s i h = closed-by s (i - 3) i (omega arith)
+
+pub closed-ascii : {s : List ℕ} {i : ℕ} (n : ℕ) → 3 ≤ n → Ascii s i n → Closed s (i + n)
+closed-ascii {s} {i} n h a =
+    let byte-at : (k : ℕ) → k < 3 → getD s (i + (n - 3) + k) 0 < 0x80 = λ k l. let e : i + (n - 3) + k ≡ i + (n - 3 + k) = omega arith in rw e (a .each (n - 3 + k) (omega arith)) in
+    let x = byte-at 2 (omega arith) in
+    let y = byte-at 1 (omega arith) in
+    let z = a .each (n - 3) (omega arith) in
+    closed-shut s (i + (n - 3)) (i + n) (omega arith) (omega arith, omega arith, omega arith)
+
+pub last-start-of : {s : List ℕ} {i : ℕ} → 3 ≤ i → Closed s i → lastStart s (i - 3) ≡ i - 3 + 3
+last-start-of {s} {i} h c = let e : i ≡ i - 3 + 3 = omega arith in c .none (i - 3) e ∙ e
+
+module _ (s : List ℕ) (i : ℕ) (c : Shut s i) where
   -- none of the three bytes before opens a char
   before : (j b : ℕ) → i ≤ j → j < i + 3 → b ≤ getD s j 0 → 0xC0 ≤ b → (j < i + 2 → 0xE0 ≤ b) → (j < i + 1 → 0xF0 ≤ b) → ⊥
   before j b h k g x y z =
@@ -165,8 +209,8 @@ module _ (s : List ℕ) (i : ℕ) (c : Closed s i) where
       omega (arith, c .2)))
 
   -- where a first byte stands among bytes that follow each other, nothing is owed
-  closed-before : (n m : ℕ) → Follows s i n → m < n → 0xC0 ≤ getD s (i + m + 3) 0 → Closed s (i + m)
-  closed-before n m f h = closed (getD s (i + m) 0) (getD s (i + m + 1) 0) (getD s (i + m + 2) 0) (getD s (i + m + 3) 0) (f .each m h)
+  shut-before : (n m : ℕ) → Follows s i n → m < n → 0xC0 ≤ getD s (i + m + 3) 0 → Shut s (i + m)
+  shut-before n m f h = closed (getD s (i + m) 0) (getD s (i + m + 1) 0) (getD s (i + m + 2) 0) (getD s (i + m + 3) 0) (f .each m h)
 
   -- a first byte that is the last one stands after none of four bytes
   apart : (n k : ℕ) → Follows s i n → k < n → 0xC0 ≤ getD s (i + k + 2) 0 → getD s (i + k + 1) 0 < 0xF0
@@ -174,7 +218,7 @@ module _ (s : List ℕ) (i : ℕ) (c : Closed s i) where
   apart n (suc m) f h l =
       let e : i + suc m + 2 ≡ i + m + 3 = omega arith in
       let d : i + suc m + 1 ≡ i + m + 2 = omega arith in
-      let q = closed-before n m f (omega arith) (rw e at l) in
+      let q = shut-before n m f (omega arith) (rw e at l) in
       rw d (omega arith)
 
   -- the bytes owe what their last three say
@@ -193,23 +237,26 @@ module _ (s : List ℕ) (i : ℕ) (c : Closed s i) where
 
   module _ (n : ℕ) (f : Follows s i n) (l : i + n + 3 ≤ length s) where
     -- from a position at which nothing is owed the bytes decide
-    same-at : (k j : ℕ) → k ≤ n → j ≡ i + k + 3 → Closed s (i + k) → Passed s (i + 3) j
+    same-at : (k j : ℕ) → k ≤ n → j ≡ i + k + 3 → Shut s (i + k) → Past s (i + 3) j
     same-at k j h e q =
         let w = owed-after n k f h l in
         let z = nothing (getD s (i + k) 0) (getD s (i + k + 1) 0) (getD s (i + k + 2) 0) (q .0) (q .1) (q .2) in
-        record { onward = omega arith; within = omega arith; same = rw e (subst (λ (o : List Range). completes o (drop (i + k + 3) s) ≡ from s (i + 3)) z w) }
+        record {
+          passed = record { onward = omega arith; within = omega arith; same = rw e (subst (λ (o : List Range). completes o (drop (i + k + 3) s) ≡ from s (i + 3)) z w) };
+          closed = closed-shut s (i + k) j e q;
+        }
 
-    at-first : (k j : ℕ) → k < n → j ≡ i + k + 3 → 0xC0 ≤ getD s j 0 → Passed s (i + 3) j
-    at-first k j h e b = same-at k j (omega arith) e (closed-before n k f h (rw e at b))
+    at-first : (k j : ℕ) → k < n → j ≡ i + k + 3 → 0xC0 ≤ getD s j 0 → Past s (i + 3) j
+    at-first k j h e b = same-at k j (omega arith) e (shut-before n k f h (rw e at b))
 
     -- a first byte that opens a char at the end is none of the three bytes before
-    last : (j b : ℕ) → i ≤ j → j < i + n + 3 → b ≤ getD s j 0 → 0xC0 ≤ b → (j < i + 2 → 0xE0 ≤ b) → (j < i + 1 → 0xF0 ≤ b) → Passed s (i + 3) j
+    last : (j b : ℕ) → i ≤ j → j < i + n + 3 → b ≤ getD s j 0 → 0xC0 ≤ b → (j < i + 2 → 0xE0 ≤ b) → (j < i + 1 → 0xF0 ≤ b) → Past s (i + 3) j
     last j b h k g x y z =
         by-test (ltb j (i + 3)) (λ t. absurd (before j b h (ltb-true j (i + 3) t) g x y z))
         (λ t. at-first (j - (i + 3)) j (omega (arith, ltb-false)) (omega (arith, ltb-false)) (omega arith))
 
-    passed-windows : Passed s (i + 3) (lastStart s (i + n))
-    passed-windows =
+    past-windows : Past s (i + 3) (lastStart s (i + n))
+    past-windows =
         by-test (leb 0xC0 (getD s (i + n + 2) 0)) (λ t. simp t (last (i + n + 2) 0xC0 (omega arith) (omega arith) (leb-true _ _ t) (omega arith) (λ h. omega arith) (λ h. omega arith)))
         (λ t.
         by-test (leb 0xE0 (getD s (i + n + 1) 0)) (λ u. simp (t, u) (last (i + n + 1) 0xE0 (omega arith) (omega arith) (leb-true _ _ u) (omega arith) (λ h. omega arith) (λ h. omega arith)))
@@ -217,7 +264,7 @@ module _ (s : List ℕ) (i : ℕ) (c : Closed s i) where
         by-test (leb 0xF0 (getD s (i + n) 0)) (λ v. simp (t, u, v) (last (i + n) 0xF0 (omega arith) (omega arith) (leb-true _ _ v) (omega arith) (λ h. omega arith) (λ h. omega arith)))
         (λ v. simp (t, u, v) (same-at n (i + n + 3) (omega arith) refl (leb-false 0xC0 _ t, leb-false 0xE0 _ u, leb-false 0xF0 _ v)))))
 
-pub passed-to : (s : List ℕ) (i j : ℕ) {r : ℕ} → lastStart s i ≡ i + 3 → i ≤ j → j + 3 ≤ length s → Follows s i (j - i) → r ≡ lastStart s j → Passed s (i + 3) r
-passed-to s i j c h l f e =
+pub past-to : (s : List ℕ) (i j : ℕ) {r : ℕ} → lastStart s i ≡ i + 3 → i ≤ j → j + 3 ≤ length s → Follows s i (j - i) → r ≡ lastStart s j → Past s (i + 3) r
+past-to s i j c h l f e =
     let d : i + (j - i) ≡ j = omega arith in
-    rw e (subst (λ (q : ℕ). Passed s (i + 3) (lastStart s q)) d (passed-windows s i (closed-at s i c) (j - i) f (omega arith)))
+    rw e (subst (λ (q : ℕ). Past s (i + 3) (lastStart s q)) d (past-windows s i (shut-at s i c) (j - i) f (omega arith)))

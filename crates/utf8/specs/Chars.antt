@@ -57,3 +57,12 @@ pub record Follows (s : List ℕ) (i n : ℕ) : Type 0 where
 -- where the char starts that is open at i + 3, or i + 3
 abbrev pub lastStart : List ℕ → ℕ → ℕ
 lastStart s i = cond (leb 0xC0 (getD s (i + 2) 0)) (i + 2) (cond (leb 0xE0 (getD s (i + 1) 0)) (i + 1) (cond (leb 0xF0 (getD s i 0)) i (i + 3)))
+
+-- no char is open at a position, by the three bytes before it
+pub record Closed (s : List ℕ) (i : ℕ) : Type 0 where
+  pub none : (j : ℕ) → i ≡ j + 3 → lastStart s j ≡ i
+
+-- the bytes from i to j are whole chars, and no char is open at j
+pub record Past (s : List ℕ) (i j : ℕ) : Type 0 where
+  pub passed : Passed s i j
+  pub closed : Closed s j

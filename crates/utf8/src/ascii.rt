@@ -3,7 +3,7 @@ ghost use mathlib.Core.Path.{_≡_};
 ghost use mathlib.Core.Bool.{true};
 ghost use Prim.Native.Nat.{_+_, _≤_, _<_};
 ghost use lib.ListN.{length};
-ghost use Rattle.utf8.specs.Chars.{Ascii, Passed, fourAt};
+ghost use Rattle.utf8.specs.Chars.{Ascii, Passed, Closed, Past, fourAt};
 
 // Whether so many bytes from a position on are ASCII. No byte ends the search, so that the compiler looks at many of them at once.
 fn many_ascii(s: &[u8], start: usize, size: usize) -> bool
@@ -48,13 +48,13 @@ pub fn is_ascii(s: &[u8], start: usize, size: usize) -> bool
     many_ascii(s, start, size)
 }
 
-// Where the blocks of so many bytes end that are ASCII.
-fn blocks(s: &[u8], start: usize, size: usize) -> usize
-    requires { ⌜ (start ≤ length (now s)) × (0 < size) ⌝ }
-    ensures { λ r. ⌜ Passed (now (s .entry)) start r ⌝ }
+// Where the blocks of so many bytes end that are ASCII and stand before an end.
+fn blocks(s: &[u8], start: usize, end: usize, size: usize) -> usize
+    requires { ⌜ (start ≤ end) × (end ≤ length (now s)) × (3 ≤ size) ⌝ }
+    ensures { λ r. ⌜ Passed (now (s .entry)) start r × (r ≤ end) × (Closed (now (s .entry)) start → Closed (now (s .entry)) r) ⌝ }
 {
     let mut i = start;
-    while size <= s.len() - i {
+    while size <= end - i {
         if !is_ascii(s, i, size) {
             return i;
         }
@@ -107,7 +107,7 @@ fn leading(s: &[u8], i: usize) -> usize
 }
 
 // Where the ASCII ends, eight bytes at a time.
-fn eights(s: &[u8], start: usize) -> usize
+pub fn eights(s: &[u8], start: usize) -> usize
     requires { ⌜ start ≤ length (now s) ⌝ }
     ensures { λ r. ⌜ Passed (now (s .entry)) start r ⌝ }
 {
@@ -119,16 +119,29 @@ fn eights(s: &[u8], start: usize) -> usize
         }
         i += 8;
     }
-    bytes(s, blocks(s, i, 4))
+    bytes(s, blocks(s, i, s.len(), 4))
 }
 
-// Where the ASCII at a position ends. Wide blocks cost least for each byte.
-pub fn pass_ascii(s: &[u8], start: usize) -> usize
-    requires { ⌜ start < length (now s) ⌝ }
-    ensures { λ r. ⌜ Passed (now (s .entry)) start r ⌝ }
+// How far the next char that is not ASCII is sought in narrow blocks.
+fn near_end(s: &[u8], start: usize) -> usize
+    requires { ⌜ start ≤ length (now s) ⌝ }
+    ensures { λ r. ⌜ (start ≤ r) × (r ≤ length (now (s .entry))) ⌝ }
 {
-    if 0x80 <= s[start] {
-        return start;
+    if s.len() - start < 112 {
+        return s.len();
     }
-    eights(s, blocks(s, blocks(s, start, 128), 16))
+    start + 112
+}
+
+// Where the blocks of ASCII at a position end. Wide blocks cost least for each byte, but those before a near char are lost.
+pub fn pass_ascii(s: &[u8], start: usize) -> usize
+    requires { ⌜ (start ≤ length (now s)) × Closed (now s) start ⌝ }
+    ensures { λ r. ⌜ Past (now (s .entry)) start r ⌝ }
+{
+    let end = near_end(s, start);
+    let near = blocks(s, start, end, 16);
+    if 16 <= end - near {
+        return near;
+    }
+    blocks(s, blocks(s, near, s.len(), 128), s.len(), 16)
 }

@@ -1,6 +1,6 @@
 // Chars one by one.
 ghost use mathlib.Core.Path.{_≡_};
-ghost use mathlib.Core.Bool.{true, false};
+ghost use mathlib.Core.Bool.{true, false, cond};
 ghost use Prim.Native.Nat.{_+_, _≤_, _<_};
 ghost use lib.ListN.{length, getD};
 ghost use Rattle.utf8.specs.Utf8.{inRange, _to_};
@@ -16,30 +16,32 @@ pub fn within(b: u8, low: u8, high: u8) -> bool
     b <= high
 }
 
-// The lowest byte that can stand after a first byte: others would be overlong forms.
+// A number if something is so, and otherwise 0.
+fn only_if(is: bool, n: u8) -> u8
+    ensures { λ r. ⌜ (r ≡ cond is n 0) × (r ≤ n) ⌝ }
+{
+    if is {
+        return n;
+    }
+    0
+}
+
+// The lowest byte that can stand after a first byte: others would be overlong forms. A sum, so that the compiler can do this for many bytes at once.
 fn lowest(first: u8) -> u8
     ensures { λ r. ⌜ r ≡ second first .low ⌝ }
 {
-    if first == 0xE0 {
-        return 0xA0;
-    }
-    if first == 0xF0 {
-        return 0x90;
-    }
-    0x80
+    let three = only_if(first == 0xE0, 0x20);
+    let four = only_if(first == 0xF0, 0x10);
+    0x80 + three + four
 }
 
 // The highest byte that can stand after a first byte: others would be surrogates, or above 10FFFF.
 fn highest(first: u8) -> u8
     ensures { λ r. ⌜ r ≡ second first .high ⌝ }
 {
-    if first == 0xED {
-        return 0x9F;
-    }
-    if first == 0xF4 {
-        return 0x8F;
-    }
-    0xBF
+    let three = only_if(first == 0xED, 0x20);
+    let four = only_if(first == 0xF4, 0x30);
+    0xBF - three - four
 }
 
 // Whether a byte can stand after a first byte.

@@ -1,3 +1,5 @@
+-- `as2_codegen::begin` meets its contract.
+-- Assumes nothing.
 use borrow.Author.Needs.{needs}
 use Rattle.as2_codegen.proofs.First.{begins}
 use Rattle.as2_codegen.proofs.begin.Statement.{statement}

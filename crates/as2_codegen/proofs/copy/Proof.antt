@@ -1,3 +1,5 @@
+-- `as2_codegen::copy` meets its contract.
+-- Assumes nothing.
 use Prim.Native.Nat.{_-_}
 use native.Mathlib.Omega.{arith}
 use borrow.Author.Needs.{needs}

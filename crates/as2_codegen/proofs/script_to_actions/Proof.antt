@@ -1,3 +1,5 @@
+-- `as2_codegen::script_to_actions` meets its contract.
+-- Assumes nothing.
 use borrow.Author.Needs.{needs}
 use mathlib.Core.Path.{_≡_, sym, ap, _∙_}
 use lib.ListN.{length}

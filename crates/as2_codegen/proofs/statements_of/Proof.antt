@@ -1,4 +1,5 @@
-use native.Mathlib.Omega.{arith}
+-- `as2_codegen::statements_of` meets its contract.
+-- Assumes nothing.
 use borrow.Author.Needs.{needs}
 use Rattle.as2_codegen.proofs.statements_of.Statement.{statement}
 use Rattle.as2_codegen.proofs.statements_of.Tie as tie

@@ -1,3 +1,5 @@
+-- `as2_codegen::with_large` meets its contract.
+-- Assumes nothing.
 use native.Mathlib.Omega.{arith}
 use Rattle.as2_codegen.proofs.Meets.{walk, few, without-loop}
 use Rattle.tree.specs.Within.{meaningsAt}

@@ -1,5 +1,7 @@
+-- `as2_codegen::with_small` meets its contract.
+-- Assumes nothing.
 use native.Mathlib.Omega.{arith}
-use Rattle.as2_codegen.proofs.Meets.{walk, few, without-loop}
+use Rattle.as2_codegen.proofs.Meets.{walk, without-loop}
 use Rattle.tree.specs.Within.{meaningsAt}
 use borrow.Author.Needs.{needs}
 use Rattle.as2_codegen.proofs.with_small.Statement.{statement}

@@ -19,30 +19,36 @@ abbrev μ-loop : tie.MeasureT-loop
 loop-holds : tie.Need-loop-holds Inv-loop μ-loop
 loop-holds c = passed-none _ _ (omega arith)
 
-pass-ascii-requires : tie.Need-pass-ascii-requires Inv-loop μ-loop
-pass-ascii-requires c κs = omega arith
+pass-windows-requires : tie.Need-pass-windows-requires Inv-loop μ-loop
+pass-windows-requires c κs = c .before .loop .inv .within
+
+eights-requires : tie.Need-eights-requires Inv-loop μ-loop
+eights-requires c κs = c .pass-windows .ensures .within
 
 returns : tie.Need-returns Inv-loop μ-loop
-returns c = answer (passed-on (c .before .before .before .loop .inv) (c .before .pass-ascii .ensures)) (at-end (now (c .before .before .before .before .before .args .s)) (c .before .pass-ascii .result) (omega arith))
+returns c =
+    let p = passed-on (c .before .before .before .before .loop .inv) (passed-on (c .before .before .pass-windows .ensures) (c .before .eights .ensures)) in
+    answer p (at-end (now (c .before .before .before .before .before .before .args .s)) (c .before .eights .result) (omega arith))
 
 pass-chars-requires : tie.Need-pass-chars-requires Inv-loop μ-loop
-pass-chars-requires c κs = let w = c .before .pass-ascii .ensures .within in omega arith
+pass-chars-requires c κs = let w = c .before .eights .ensures .within in omega arith
 
 returns-2 : tie.Need-returns-2 Inv-loop μ-loop
-returns-2 c = answer (passed-on (c .before .before .before .before .before .loop .inv) (c .before .before .before .pass-ascii .ensures)) (sym (c .before .pass-chars .ensures .refused (c .if2 .taken)))
-
-pass-mixed-requires : tie.Need-pass-mixed-requires Inv-loop μ-loop
-pass-mixed-requires c κs = c .before .pass-chars .ensures .passed .within
+returns-2 c =
+    let p = passed-on (c .before .before .before .before .before .before .loop .inv) (passed-on (c .before .before .before .before .pass-windows .ensures) (c .before .before .before .eights .ensures)) in
+    answer p (sym (c .before .pass-chars .ensures .refused (c .if2 .taken)))
 
 loop-less : tie.Need-loop-less Inv-loop μ-loop
 loop-less c =
-    let o = c .before .before .before .before .pass-ascii .ensures in
-    let p = c .before .before .pass-chars .ensures .passed in
-    let q = c .pass-mixed .ensures in
+    let o = c .before .before .before .before .pass-windows .ensures in
+    let p = c .before .before .before .eights .ensures in
+    let q = c .before .pass-chars .ensures .passed in
     omega arith
 
 loop-again : tie.Need-loop-again Inv-loop μ-loop
-loop-again c = passed-on (c .before .before .before .before .before .before .loop .inv) (passed-on (c .before .before .before .before .pass-ascii .ensures) (passed-on (c .before .before .pass-chars .ensures .passed) (c .pass-mixed .ensures)))
+loop-again c =
+    let p = passed-on (c .before .before .before .before .before .before .loop .inv) (passed-on (c .before .before .before .before .pass-windows .ensures) (c .before .before .before .eights .ensures)) in
+    passed-on p (c .before .pass-chars .ensures .passed)
 
 returns-3 : tie.Need-returns-3 Inv-loop μ-loop
 returns-3 c = answer (c .before .loop .inv) (at-end (now (c .before .before .before .args .s)) (c .before .loop .i) (omega arith))
@@ -54,11 +60,11 @@ is-utf8-spec =
     Inv-loop
     μ-loop
     loop-holds
-    pass-ascii-requires
+    pass-windows-requires
+    eights-requires
     returns
     pass-chars-requires
     returns-2
-    pass-mixed-requires
     loop-less
     loop-again
     returns-3)

@@ -1,22 +1,22 @@
 -- `utf8::ascii::blocks` meets its contract. The loop's invariant: up to i there is ASCII.
 -- Assumes nothing.
-use Prim.Native.Nat.{_-_}
+use Prim.Native.Nat.{_-_, _≤_}
 use native.Mathlib.Omega.{arith}
 use borrow.Author.Tests.{not-false}
-use lib.ListN.{length}
-use Rattle.utf8.specs.Chars.{Passed}
+use Rattle.utf8.specs.Chars.{Passed, Closed}
 use Rattle.utf8.proofs.Reading.{passed-none, passed-ascii}
+use Rattle.utf8.proofs.Windows.{closed-ascii}
 use Rattle.utf8.proofs.ascii.blocks.Statement.{statement}
 use Rattle.utf8.proofs.ascii.blocks.Tie as tie
 
 abbrev Inv-loop : tie.InvT-loop
-Inv-loop s start size i₀ i = Passed s start i
+Inv-loop s start end size i₀ i = Passed s start i × (i ≤ end) × (Closed s start → Closed s i)
 
 abbrev μ-loop : tie.MeasureT-loop
-μ-loop s start size i₀ i = length s - i
+μ-loop s start end size i₀ i = end - i
 
 loop-holds : tie.Need-loop-holds Inv-loop μ-loop
-loop-holds c = passed-none _ _ (omega arith)
+loop-holds c = (passed-none _ _ (omega arith), omega arith, λ q. q)
 
 sub-loop : tie.Need-sub-loop Inv-loop μ-loop
 sub-loop c = omega arith
@@ -34,7 +34,9 @@ loop-less : tie.Need-loop-less Inv-loop μ-loop
 loop-less c = omega arith
 
 loop-again : tie.Need-loop-again Inv-loop μ-loop
-loop-again c = passed-ascii _ (c .before .before .before .loop .inv) (omega arith) (c .before .is-ascii .ensures (not-false _ (c .if1 .left)))
+loop-again c =
+    let a = c .before .is-ascii .ensures (not-false _ (c .if1 .left)) in
+    (passed-ascii _ (c .before .before .before .loop .inv .0) (omega arith) a, omega arith, λ q. closed-ascii _ (omega arith) a)
 
 returns-2 : tie.Need-returns-2 Inv-loop μ-loop
 returns-2 c = c .before .loop .inv

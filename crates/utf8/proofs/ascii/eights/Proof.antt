@@ -43,13 +43,13 @@ loop-again c =
     passed-ascii 8 (c .before .before .before .loop .inv) (omega arith) (subst (λ (n : ℕ). Ascii (now (c .before .before .before .before .before .args .s)) (c .before .before .before .loop .i) n) e (c .before .leading .ensures .1))
 
 blocks-requires : tie.Need-blocks-requires Inv-loop μ-loop
-blocks-requires c κs = (omega arith, omega arith)
+blocks-requires c κs = (omega arith, omega arith, omega arith)
 
 bytes-requires : tie.Need-bytes-requires Inv-loop μ-loop
-bytes-requires c κs = c .blocks2 .ensures .within
+bytes-requires c κs = c .blocks2 .ensures .0 .within
 
 returns-2 : tie.Need-returns-2 Inv-loop μ-loop
-returns-2 c = passed-on (passed-on (c .before .before .before .loop .inv) (c .before .blocks2 .ensures)) (c .bytes .ensures)
+returns-2 c = passed-on (passed-on (c .before .before .before .loop .inv) (c .before .blocks2 .ensures .0)) (c .bytes .ensures)
 
 pub eights-spec : {M : Type 1} → statement M
 eights-spec =

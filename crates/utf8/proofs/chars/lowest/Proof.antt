@@ -1,17 +1,27 @@
 -- `utf8::chars::lowest` meets its contract.
 -- Assumes nothing.
-use borrow.Author.Tests.{eq-eqb, ne-eqb}
+use Prim.Native.Nat.{ℕ, _+_}
+use mathlib.Core.Path.{_∙_, ap₂}
+use Rattle.utf8.proofs.Forms.{lowest-sum}
+use borrow.Author.Needs.{needs}
 use Rattle.utf8.proofs.chars.lowest.Statement.{statement}
 use Rattle.utf8.proofs.chars.lowest.Tie as tie
 
+only-if-requires : tie.Need-only-if-requires
+only-if-requires c κs = search needs
+
+only-if-requires-2 : tie.Need-only-if-requires-2
+only-if-requires-2 c κs = search needs
+
+add-result : tie.Need-add-result
+add-result c = search needs
+
+add-result-2 : tie.Need-add-result-2
+add-result-2 c = search needs
+
 returns : tie.Need-returns
-returns c = simp (eq-eqb _ _ (c .if1 .taken))
-
-returns-2 : tie.Need-returns-2
-returns-2 c = simp (ne-eqb _ _ (c .before .if1 .left), eq-eqb _ _ (c .if2 .taken))
-
-returns-3 : tie.Need-returns-3
-returns-3 c = simp (ne-eqb _ _ (c .before .if1 .left), ne-eqb _ _ (c .if2 .left))
+returns c = ap₂ (λ (x y : ℕ). 0x80 + x + y) (c .before .only-if .ensures .0) (c .only-if2 .ensures .0) ∙ lowest-sum (c .before .before .args .first)
 
 pub lowest-spec : {M : Type 1} → statement M
-lowest-spec = tie.close (tie.spec returns returns-2 returns-3)
+lowest-spec =
+    tie.close (tie.spec only-if-requires only-if-requires-2 add-result add-result-2 returns)

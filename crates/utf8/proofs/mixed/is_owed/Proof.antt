@@ -1,17 +1,25 @@
 -- `utf8::mixed::is_owed` meets its contract.
 -- Assumes nothing.
-use borrow.Author.Tests.{le-leb, lt-leb}
+use Rattle.utf8.proofs.Windows.{owed-one}
+use borrow.Author.Needs.{needs}
 use Rattle.utf8.proofs.mixed.is_owed.Statement.{statement}
 use Rattle.utf8.proofs.mixed.is_owed.Tie as tie
 
+less-requires : tie.Need-less-requires
+less-requires c κs = search needs
+
+less-requires-2 : tie.Need-less-requires-2
+less-requires-2 c κs = search needs
+
+larger-requires : tie.Need-larger-requires
+larger-requires c κs = search needs
+
+larger-requires-2 : tie.Need-larger-requires-2
+larger-requires-2 c κs = search needs
+
 returns : tie.Need-returns
-returns c = simp (le-leb _ _ (c .if1 .taken))
-
-returns-2 : tie.Need-returns-2
-returns-2 c = simp (lt-leb _ _ (c .before .if1 .left), le-leb _ _ (c .if2 .taken))
-
-returns-3 : tie.Need-returns-3
-returns-3 c = simp (lt-leb _ _ (c .before .if1 .left), lt-leb _ _ (c .if2 .left))
+returns c = owed-one _ _ _ _ _ _ _ (c .before .before .before .less .ensures) (c .before .before .less2 .ensures) (c .before .larger .ensures) (c .larger2 .ensures)
 
 pub is-owed-spec : {M : Type 1} → statement M
-is-owed-spec = tie.close (tie.spec returns returns-2 returns-3)
+is-owed-spec =
+    tie.close (tie.spec less-requires less-requires-2 larger-requires larger-requires-2 returns)

@@ -12,10 +12,10 @@ use Rattle.utf8.proofs.mixed.is_window.Statement.{statement}
 use Rattle.utf8.proofs.mixed.is_window.Tie as tie
 
 abbrev Inv-loop : tie.InvT-loop
-Inv-loop s i count₀ k₀ count k = (k ≤ 32) × (count ≤ k) × (count ≡ k → Follows s i k)
+Inv-loop s i count₀ k₀ count k = (k ≤ 16) × (count ≤ k) × (count ≡ k → Follows s i k)
 
 abbrev μ-loop : tie.MeasureT-loop
-μ-loop s i count₀ k₀ count k = 32 - k
+μ-loop s i count₀ k₀ count k = 16 - k
 
 loop-holds : tie.Need-loop-holds Inv-loop μ-loop
 loop-holds c = (omega arith, omega arith, λ e. follows-none _ _)
@@ -63,8 +63,8 @@ loop-again c =
 
 returns : tie.Need-returns Inv-loop μ-loop
 returns c e =
-    let m = eqb-true (c .before .loop .count) 32 e in
-    let q : c .before .loop .k ≡ 32 = omega arith in
+    let m = eqb-true (c .before .loop .count) 16 e in
+    let q : c .before .loop .k ≡ 16 = omega arith in
     rw (← q) (c .before .loop .inv .2 (omega arith))
 
 pub is-window-spec : {M : Type 1} → statement M

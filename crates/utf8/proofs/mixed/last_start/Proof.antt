@@ -1,59 +1,53 @@
 -- `utf8::mixed::last_start` meets its contract.
 -- Assumes nothing.
-use borrow.Author.Tests.{le-leb, lt-leb}
+use mathlib.Core.Path.{sym, _∙_}
+use denote.Ref.{now}
+use Rattle.utf8.proofs.Windows.{last-start-shut}
 use borrow.Author.Needs.{needs}
 use Rattle.utf8.proofs.mixed.last_start.Statement.{statement}
 use Rattle.utf8.proofs.mixed.last_start.Tie as tie
 
-add-if1 : tie.Need-add-if1
-add-if1 c = search needs
+shared-slice-read-is-open : tie.Need-shared-slice-read-is-open
+shared-slice-read-is-open c = search needs
 
-shared-slice-read-if1 : tie.Need-shared-slice-read-if1
-shared-slice-read-if1 c = search needs
+add-is-open : tie.Need-add-is-open
+add-is-open c = search needs
+
+shared-slice-read-is-open-2 : tie.Need-shared-slice-read-is-open-2
+shared-slice-read-is-open-2 c = search needs
+
+add-is-open-2 : tie.Need-add-is-open-2
+add-is-open-2 c = search needs
+
+shared-slice-read-is-open-3 : tie.Need-shared-slice-read-is-open-3
+shared-slice-read-is-open-3 c = search needs
+
+is-open-requires : tie.Need-is-open-requires
+is-open-requires c κs = search needs
+
+open-start-requires : tie.Need-open-start-requires
+open-start-requires c κs = search needs
+
+returns : tie.Need-returns
+returns c = search needs
 
 add-result : tie.Need-add-result
 add-result c = search needs
 
-returns : tie.Need-returns
-returns c = simp (le-leb _ _ (c .if1 .taken))
-
-add-if2 : tie.Need-add-if2
-add-if2 c = search needs
-
-shared-slice-read-if2 : tie.Need-shared-slice-read-if2
-shared-slice-read-if2 c = search needs
-
-add-result-2 : tie.Need-add-result-2
-add-result-2 c = search needs
-
 returns-2 : tie.Need-returns-2
-returns-2 c = simp (lt-leb _ _ (c .before .before .if1 .left), le-leb _ _ (c .if2 .taken))
-
-shared-slice-read-if3 : tie.Need-shared-slice-read-if3
-shared-slice-read-if3 c = search needs
-
-returns-3 : tie.Need-returns-3
-returns-3 c = simp (lt-leb _ _ (c .before .before .before .before .if1 .left), lt-leb _ _ (c .before .before .if2 .left), le-leb _ _ (c .if3 .taken))
-
-add-result-3 : tie.Need-add-result-3
-add-result-3 c = search needs
-
-returns-4 : tie.Need-returns-4
-returns-4 c = simp (lt-leb _ _ (c .before .before .before .before .if1 .left), lt-leb _ _ (c .before .before .if2 .left), lt-leb _ _ (c .if3 .left))
+returns-2 c = sym (last-start-shut (now (c .before .before .before .before .before .before .args .s)) (c .before .before .before .before .before .before .args .i) (sym (c .before .is-open .ensures) ∙ c .if1 .left))
 
 pub last-start-spec : {M : Type 1} → statement M
 last-start-spec =
     tie.close
     (tie.spec
-    add-if1
-    shared-slice-read-if1
-    add-result
+    shared-slice-read-is-open
+    add-is-open
+    shared-slice-read-is-open-2
+    add-is-open-2
+    shared-slice-read-is-open-3
+    is-open-requires
+    open-start-requires
     returns
-    add-if2
-    shared-slice-read-if2
-    add-result-2
-    returns-2
-    shared-slice-read-if3
-    returns-3
-    add-result-3
-    returns-4)
+    add-result
+    returns-2)
