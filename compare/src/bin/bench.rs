@@ -173,6 +173,8 @@ fn strings() -> Vec<Shape> {
         shape("260,000 empty strings", &vec![""; 260_000], vec![run(integer(1))]),
         shape("80,000 strings of 8 bytes", &vec!["abcdefgh"; 80_000], vec![run(integer(1))]),
         shape("80,000 strings of 4 two-byte characters", &vec!["\u{e9}\u{e8}\u{ea}\u{eb}"; 80_000], vec![run(integer(1))]),
+        shape("20,000 strings of 13 three-byte characters", &vec!["\u{5b57}".repeat(13); 20_000], vec![run(integer(1))]),
+        shape("45,000 strings of 4 four-byte characters", &vec!["\u{1f600}".repeat(4); 45_000], vec![run(integer(1))]),
         shape(
             "40,000 strings of 20 bytes, one character of two",
             &vec!["a clarity caf\u{e9} hall"; 40_000],

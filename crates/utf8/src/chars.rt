@@ -51,6 +51,20 @@ pub fn is_second(first: u8, b: u8) -> bool
     within(b, lowest(first), highest(first))
 }
 
+// The same for a char of four bytes. Only two of its first bytes are special, so that here a branch costs less than a sum.
+fn is_second_of_four(first: u8, b: u8) -> bool
+    requires { ⌜ 0xF0 ≤ first ⌝ }
+    ensures { λ r. ⌜ r ≡ inRange b (second first) ⌝ }
+{
+    if first == 0xF0 {
+        return within(b, 0x90, 0xBF);
+    }
+    if first == 0xF4 {
+        return within(b, 0x80, 0x8F);
+    }
+    within(b, 0x80, 0xBF)
+}
+
 // UTF8-2, by its first byte: whether it stands at a position.
 fn is_two(s: &[u8], i: usize) -> bool
     requires { ⌜ (i < length (now s)) × (inRange (getD (now s) i 0) (0xC2 to 0xDF) ≡ true) ⌝ }
@@ -84,7 +98,7 @@ fn is_four(s: &[u8], i: usize) -> bool
     if s.len() - i < 4 {
         return false;
     }
-    if !is_second(s[i], s[i + 1]) {
+    if !is_second_of_four(s[i], s[i + 1]) {
         return false;
     }
     if !within(s[i + 2], 0x80, 0xBF) {
@@ -109,7 +123,7 @@ fn stop_at(s: &[u8], start: usize) -> usize
     requires { ⌜ start < length (now s) ⌝ }
     ensures { λ r. ⌜ (start < r) × (r ≤ length (now (s .entry))) ⌝ }
 {
-    if s.len() - start < 40 {
+    if s.len() - start < 32 {
         return s.len();
     }
     start + 6
