@@ -1,3 +1,5 @@
+#![tactic(auto)]
+
 // How a value is reached, and what is done with it there (`access.rs`).
 ghost use Rattle.std.specs.Prelude.{◌≡◌, List, ℕ, ◌+◌, ◌<◌, ◌≤◌, T, length};
 ghost use Rattle.script_records.specs.Layout.{layout_of, string_at};

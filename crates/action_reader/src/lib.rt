@@ -1,3 +1,5 @@
+#![tactic(auto)]
+
 // Action bytes read into the list slice.
 ghost use Rattle.std.specs.Prelude.{length};
 ghost use Rattle.lowering.specs.Builder.{limits01};

@@ -1,3 +1,5 @@
+#![tactic(auto)]
+
 // The action bytes of compiled lists.
 pub mod list;
 

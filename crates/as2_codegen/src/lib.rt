@@ -1,3 +1,5 @@
+#![tactic(auto)]
+
 // A script file is lowered (`as2_codegen.rs`, `script_to_actions`): checked first, then its statements generated into the list slice.
 ghost use Rattle.std.specs.Prelude.{◌≡◌, List, ℕ, ◌≤◌, length};
 ghost use Rattle.script_records.specs.Layout.{layout_of};

@@ -1,3 +1,5 @@
+#![tactic(auto)]
+
 // Checks script files that stand in a text, a line `NAME BYTES` for each, and prints a line `NAME ANSWER`.
 ghost use Rattle.std.specs.Prelude.{◌≤◌, ◌≡◌};
 ghost use Rattle.script.specs.Rules.{check_of, refusal_of};

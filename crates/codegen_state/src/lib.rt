@@ -1,3 +1,5 @@
+#![tactic(auto)]
+
 // The state of lowering, by value; the entries of the lists stand in the list slice.
 
 // `refused` is 0, or the number of the refusal after which no step is done. Counted over all lists: actions, push values, labels made, marks, strings of

@@ -1,3 +1,5 @@
+#![tactic(auto)]
+
 // Compiles the script file that the first argument names, or the one on standard input, and writes its action bytes to standard output. On a refusal
 // it writes nothing there, and says on standard error which one it is.
 use libc::{STDERR_FILENO, STDIN_FILENO, STDOUT_FILENO};

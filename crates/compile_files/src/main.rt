@@ -1,3 +1,5 @@
+#![tactic(auto)]
+
 // Compiles script files that stand in a text, a line `NAME BYTES` for each, and prints NAME, the listing of its lists and its action bytes, or its refusal.
 // It also compiles each file again at the edges of what a call is lent.
 use crate::edges::{put_edges, put_sum};

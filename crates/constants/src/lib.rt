@@ -1,3 +1,5 @@
+#![tactic(auto)]
+
 // The pool of strings (`constants.rs`). A string is its reference: an index of the file's table, or 0xffffffff for the empty string of a property's target.
 ghost use Rattle.std.specs.Prelude.{◌≡◌, cond, ◌+◌, ◌*◌, ◌<◌, ◌≤◌, T, length, get_or, take, drop};
 ghost use Rattle.std.proofs.Math.Option.{none, some};

@@ -1,3 +1,5 @@
+#![tactic(auto)]
+
 // A record's words as the enum of `hir`, and a function's record as a struct.
 ghost use Rattle.std.specs.Prelude.{◌≡◌, ◌<◌, get_or};
 ghost use Rattle.hir.specs.declared.BinaryOperator as binary;

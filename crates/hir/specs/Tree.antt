@@ -1,5 +1,5 @@
 -- Trees in a row. Each is a record and its children, which are trees in a row again.
-use Rattle.std.specs.Prelude.{ℕ, suc, ◌+◌, max, List, [], ◌∷◌}
+use Rattle.std.specs.Prelude.{ℕ, suc, ◌+◌, max}
 
 -- the trees before the last, the last one's record, and its children
 pub data Forest (A : Type 0) : Type 0 where

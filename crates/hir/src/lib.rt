@@ -1,3 +1,5 @@
+#![tactic(auto)]
+
 // The decoded record of a script file (`hir.rs`). A string is its index in the string table; the children are records of their own.
 #[derive(Drop)]
 pub enum Affix {

@@ -1,3 +1,5 @@
+#![tactic(auto)]
+
 // Steps that emit, but generate no part of the tree.
 ghost use Rattle.std.specs.Prelude.{◌≡◌, List, [], false, cond, not, ◌&&◌, ◌||◌, ℕ, ◌+◌, ◌-◌, ◌*◌, ◌%◌, ◌<◌, ◌≤◌, T, ltb, eqb, length};
 ghost use Rattle.pcode.specs.Pcode.{Value, moved, Integer, Float};

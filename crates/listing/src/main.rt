@@ -1,3 +1,5 @@
+#![tactic(auto)]
+
 // Prints the listing of the script file on standard input, or its refusal.
 use listing_text::put_compiled;
 use listing_text::text::{flush, put_refusal};

@@ -1,3 +1,5 @@
+#![tactic(auto)]
+
 // The listing of document 01: the lists of a list slice as lines of text.
 mod entries;
 mod names;

@@ -1,3 +1,5 @@
+#![tactic(auto)]
+
 // How an operator, a simple expression and a record are generated: the tables of `statement.rs`.
 ghost use Rattle.std.specs.Prelude.{◌≡◌};
 ghost use Rattle.lowering.specs.Operators.{plan, simple_action};

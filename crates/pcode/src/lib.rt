@@ -1,3 +1,5 @@
+#![tactic(auto)]
+
 // The actions of `pcode.rs` that lowering emits.
 ghost use Rattle.pcode.specs.Pcode.{Delta, row, row_of};
 ghost use Rattle.pcode.specs.Moves.{Moves};

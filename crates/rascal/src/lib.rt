@@ -1,3 +1,5 @@
+#![tactic(auto)]
+
 // The two calls: a script file is compiled into the list slice and the output, and action bytes are read into the list slice.
 ghost use Rattle.std.specs.Prelude.{◌≤◌, length};
 ghost use Rattle.lowering.specs.Builder.{limits01};

@@ -1,3 +1,5 @@
+#![tactic(auto)]
+
 // Reads action bytes that stand in a text, a line `NAME BYTES` for each, and prints NAME and the listing of their lists by place, or their refusal.
 use action_reader::{Answer, read};
 use listing_text::put_read;

@@ -1,3 +1,5 @@
+#![tactic(auto)]
+
 // Reads one record of action bytes, or one pushed value, at a position of lent bytes.
 ghost use Rattle.std.specs.Prelude.{◌≡◌, ◌+◌, ◌≤◌, length, drop};
 ghost use Rattle.record_reader.specs.Heads.{head_at};

@@ -1,3 +1,5 @@
+#![tactic(auto)]
+
 // What the writer of action bytes needs of the compiled lists: the bytes of each body and the offset of each branch, or refusal 9, 10 or 11.
 mod branches;
 mod passes;

@@ -1,3 +1,5 @@
+#![tactic(auto)]
+
 // What is done with each tree of a row, and the labels that Break and Continue jump to.
 ghost use Rattle.std.specs.Prelude.{◌≡◌};
 ghost use Rattle.std.proofs.Math.Option.{some};

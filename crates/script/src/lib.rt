@@ -1,3 +1,5 @@
+#![tactic(auto)]
+
 // The script file: its rules, and what lowering reads of it.
 ghost use Rattle.std.specs.Prelude.{◌≡◌};
 ghost use Rattle.script_records.specs.Layout.{layout_of};

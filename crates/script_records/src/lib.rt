@@ -1,3 +1,5 @@
+#![tactic(auto)]
+
 // The records and strings of a script file.
 pub mod layout;
 pub mod part;

@@ -1,3 +1,5 @@
+#![tactic(auto)]
+
 ghost use Rattle.std.specs.Prelude.{◌≡◌, ◌+◌, ◌≤◌, ◌<◌, ◌&&◌, [], length, get_or, drop};
 ghost use Rattle.special_properties.specs.SpecialProperties.{names, to_ascii_lowercase, get_special_property, property_of, same_bytes, null, undefined};
 

@@ -1,3 +1,5 @@
+#![tactic(auto)]
+
 // Statements, expressions, accesses and function bodies (`statement.rs`). They call each other in a ring: a call goes to a part of fewer records, or to the
 // same part further down in this order: the constructs, gen_statements, each and args, one, for_expr, gen_expr and gen_statement.
 // Each takes the file and its layout, the part whose last tree (or whose trees) it generates, the builder, the list slice, and a scratch slice.
@@ -45,7 +47,7 @@ use tree::{
 };
 
 // Named function expressions that are whole statements come first.
-#[cycle(adjust_args_drag_each_ends_exit_for_expr_gen_binary_op_gen_call_gen_expr_gen_for_loop_gen_function_gen_if_gen_statement_gen_statements_gen_switch_gen_ternary_gen_unary_op_gen_while_loop_goto_one)]
+#[cycle(ring)]
 pub fn gen_statements(
     file: &[u8],
     l: Layout,
@@ -66,7 +68,7 @@ pub fn gen_statements(
 }
 
 // Each tree of a row, the first first. `seen` and `cases` count the trees before with a label, and the cases among them.
-#[cycle(adjust_args_drag_each_ends_exit_for_expr_gen_binary_op_gen_call_gen_expr_gen_for_loop_gen_function_gen_if_gen_statement_gen_statements_gen_switch_gen_ternary_gen_unary_op_gen_while_loop_goto_one)]
+#[cycle(ring)]
 fn each(
     file: &[u8],
     l: Layout,
@@ -119,7 +121,7 @@ fn each(
     cur
 }
 
-#[cycle(adjust_args_drag_each_ends_exit_for_expr_gen_binary_op_gen_call_gen_expr_gen_for_loop_gen_function_gen_if_gen_statement_gen_statements_gen_switch_gen_ternary_gen_unary_op_gen_while_loop_goto_one)]
+#[cycle(ring)]
 fn one(
     file: &[u8],
     l: Layout,
@@ -197,7 +199,7 @@ fn one(
     }
 }
 
-#[cycle(adjust_args_drag_each_ends_exit_for_expr_gen_binary_op_gen_call_gen_expr_gen_for_loop_gen_function_gen_if_gen_statement_gen_statements_gen_switch_gen_ternary_gen_unary_op_gen_while_loop_goto_one)]
+#[cycle(ring)]
 fn gen_statement(
     file: &[u8],
     l: Layout,
@@ -263,7 +265,7 @@ fn gen_statement(
 }
 
 // Return and Throw.
-#[cycle(adjust_args_drag_each_ends_exit_for_expr_gen_binary_op_gen_call_gen_expr_gen_for_loop_gen_function_gen_if_gen_statement_gen_statements_gen_switch_gen_ternary_gen_unary_op_gen_while_loop_goto_one)]
+#[cycle(ring)]
 fn exit(
     file: &[u8],
     l: Layout,
@@ -286,7 +288,7 @@ fn exit(
     action(list, b1, o)
 }
 
-#[cycle(adjust_args_drag_each_ends_exit_for_expr_gen_binary_op_gen_call_gen_expr_gen_for_loop_gen_function_gen_if_gen_statement_gen_statements_gen_switch_gen_ternary_gen_unary_op_gen_while_loop_goto_one)]
+#[cycle(ring)]
 fn gen_switch(
     file: &[u8],
     l: Layout,
@@ -361,7 +363,7 @@ fn gen_switch(
     mark_label(list, b7, Label(end))
 }
 
-#[cycle(adjust_args_drag_each_ends_exit_for_expr_gen_binary_op_gen_call_gen_expr_gen_for_loop_gen_function_gen_if_gen_statement_gen_statements_gen_switch_gen_ternary_gen_unary_op_gen_while_loop_goto_one)]
+#[cycle(ring)]
 fn gen_while_loop(
     file: &[u8],
     l: Layout,
@@ -389,7 +391,7 @@ fn gen_while_loop(
 }
 
 // A Break in `initialize` jumps to the end of the loop. What is absent generates nothing.
-#[cycle(adjust_args_drag_each_ends_exit_for_expr_gen_binary_op_gen_call_gen_expr_gen_for_loop_gen_function_gen_if_gen_statement_gen_statements_gen_switch_gen_ternary_gen_unary_op_gen_while_loop_goto_one)]
+#[cycle(ring)]
 fn gen_for_loop(
     file: &[u8],
     l: Layout,
@@ -455,7 +457,7 @@ fn gen_for_loop(
 }
 
 // The last condition decides.
-#[cycle(adjust_args_drag_each_ends_exit_for_expr_gen_binary_op_gen_call_gen_expr_gen_for_loop_gen_function_gen_if_gen_statement_gen_statements_gen_switch_gen_ternary_gen_unary_op_gen_while_loop_goto_one)]
+#[cycle(ring)]
 fn ends(
     file: &[u8],
     l: Layout,
@@ -491,7 +493,7 @@ fn ends(
     branch(list, b3, Label(end))
 }
 
-#[cycle(adjust_args_drag_each_ends_exit_for_expr_gen_binary_op_gen_call_gen_expr_gen_for_loop_gen_function_gen_if_gen_statement_gen_statements_gen_switch_gen_ternary_gen_unary_op_gen_while_loop_goto_one)]
+#[cycle(ring)]
 fn gen_if(
     file: &[u8],
     l: Layout,
@@ -527,7 +529,7 @@ fn gen_if(
     mark_label(list, b5, Label(end))
 }
 
-#[cycle(adjust_args_drag_each_ends_exit_for_expr_gen_binary_op_gen_call_gen_expr_gen_for_loop_gen_function_gen_if_gen_statement_gen_statements_gen_switch_gen_ternary_gen_unary_op_gen_while_loop_goto_one)]
+#[cycle(ring)]
 fn gen_expr(
     file: &[u8],
     l: Layout,
@@ -630,7 +632,7 @@ fn gen_expr(
     }
 }
 
-#[cycle(adjust_args_drag_each_ends_exit_for_expr_gen_binary_op_gen_call_gen_expr_gen_for_loop_gen_function_gen_if_gen_statement_gen_statements_gen_switch_gen_ternary_gen_unary_op_gen_while_loop_goto_one)]
+#[cycle(ring)]
 fn for_expr(
     file: &[u8],
     l: Layout,
@@ -679,7 +681,7 @@ fn for_expr(
     }
 }
 
-#[cycle(adjust_args_drag_each_ends_exit_for_expr_gen_binary_op_gen_call_gen_expr_gen_for_loop_gen_function_gen_if_gen_statement_gen_statements_gen_switch_gen_ternary_gen_unary_op_gen_while_loop_goto_one)]
+#[cycle(ring)]
 fn gen_binary_op(
     file: &[u8],
     l: Layout,
@@ -747,7 +749,7 @@ fn gen_binary_op(
     }
 }
 
-#[cycle(adjust_args_drag_each_ends_exit_for_expr_gen_binary_op_gen_call_gen_expr_gen_for_loop_gen_function_gen_if_gen_statement_gen_statements_gen_switch_gen_ternary_gen_unary_op_gen_while_loop_goto_one)]
+#[cycle(ring)]
 fn gen_unary_op(
     file: &[u8],
     l: Layout,
@@ -817,7 +819,7 @@ fn gen_unary_op(
 }
 
 // A postfix operator leaves the old value, and the rest is as if its value were discarded; a prefix operator leaves the new one.
-#[cycle(adjust_args_drag_each_ends_exit_for_expr_gen_binary_op_gen_call_gen_expr_gen_for_loop_gen_function_gen_if_gen_statement_gen_statements_gen_switch_gen_ternary_gen_unary_op_gen_while_loop_goto_one)]
+#[cycle(ring)]
 fn adjust(
     file: &[u8],
     l: Layout,
@@ -851,7 +853,7 @@ fn adjust(
 }
 
 // The no branch comes first.
-#[cycle(adjust_args_drag_each_ends_exit_for_expr_gen_binary_op_gen_call_gen_expr_gen_for_loop_gen_function_gen_if_gen_statement_gen_statements_gen_switch_gen_ternary_gen_unary_op_gen_while_loop_goto_one)]
+#[cycle(ring)]
 fn gen_ternary(
     file: &[u8],
     l: Layout,
@@ -880,7 +882,7 @@ fn gen_ternary(
 }
 
 // `gen_call`, and `gen_new`.
-#[cycle(adjust_args_drag_each_ends_exit_for_expr_gen_binary_op_gen_call_gen_expr_gen_for_loop_gen_function_gen_if_gen_statement_gen_statements_gen_switch_gen_ternary_gen_unary_op_gen_while_loop_goto_one)]
+#[cycle(ring)]
 fn gen_call(
     file: &[u8],
     l: Layout,
@@ -907,7 +909,7 @@ fn gen_call(
 }
 
 // Arguments run from the last to the first, and then their count.
-#[cycle(adjust_args_drag_each_ends_exit_for_expr_gen_binary_op_gen_call_gen_expr_gen_for_loop_gen_function_gen_if_gen_statement_gen_statements_gen_switch_gen_ternary_gen_unary_op_gen_while_loop_goto_one)]
+#[cycle(ring)]
 fn args(
     file: &[u8],
     l: Layout,
@@ -935,7 +937,7 @@ fn args(
     push_count(list, cur, n)
 }
 
-#[cycle(adjust_args_drag_each_ends_exit_for_expr_gen_binary_op_gen_call_gen_expr_gen_for_loop_gen_function_gen_if_gen_statement_gen_statements_gen_switch_gen_ternary_gen_unary_op_gen_while_loop_goto_one)]
+#[cycle(ring)]
 fn goto(
     file: &[u8],
     l: Layout,
@@ -972,7 +974,7 @@ fn goto(
     }
 }
 
-#[cycle(adjust_args_drag_each_ends_exit_for_expr_gen_binary_op_gen_call_gen_expr_gen_for_loop_gen_function_gen_if_gen_statement_gen_statements_gen_switch_gen_ternary_gen_unary_op_gen_while_loop_goto_one)]
+#[cycle(ring)]
 fn drag(
     file: &[u8],
     l: Layout,
@@ -1003,7 +1005,7 @@ fn drag(
 }
 
 // A body starts with no label to break or continue to.
-#[cycle(adjust_args_drag_each_ends_exit_for_expr_gen_binary_op_gen_call_gen_expr_gen_for_loop_gen_function_gen_if_gen_statement_gen_statements_gen_switch_gen_ternary_gen_unary_op_gen_while_loop_goto_one)]
+#[cycle(ring)]
 fn gen_function(
     file: &[u8],
     l: Layout,

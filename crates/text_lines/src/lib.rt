@@ -1,3 +1,5 @@
+#![tactic(auto)]
+
 // The text's lines and what their bytes are written as: two hex digits for a byte; `@PART*COUNT:` for a part and COUNT more bytes of its repetition.
 ghost use Rattle.std.specs.Prelude.{ℕ, ◌+◌, ◌<◌, ◌≤◌, ◌≡◌, length, get_or};
 ghost use Rattle.text_lines.specs.Text.{hex_value};

@@ -1,3 +1,5 @@
+#![tactic(auto)]
+
 // The tree of a script file, node by node. A node's children, and those before a sibling, are parts of the records.
 ghost use Rattle.std.specs.Prelude.{◌≡◌, ◌-◌, ◌≤◌};
 ghost use Rattle.lowering.specs.Meaning.{width};

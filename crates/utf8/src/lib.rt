@@ -1,3 +1,5 @@
+#![tactic(auto)]
+
 mod ascii;
 mod chars;
 mod mixed;

@@ -1,3 +1,5 @@
+#![tactic(auto)]
+
 // Slices cleared: what the calls do before they write, and what a refusal leaves.
 ghost use Rattle.std.specs.Prelude.{◌≡◌, length};
 ghost use Rattle.list_slice.specs.Words.{zeros_of};

@@ -39,67 +39,67 @@ use borrow.Fn.Kinds.{In}
 use borrow.Fn.PlainCycle.{Measures, is, falls, and}
 use Rattle.statement.proofs.adjust.Reads as adjust
 use Rattle.statement.proofs.adjust.Kinds as adjust-kinds
-use Rattle.statement.proofs.+adjust_args_drag_each_ends_exit_for_expr_gen_binary_op_gen_call_gen_expr_gen_for_loop_gen_function_gen_if_gen_statement_gen_statements_gen_switch_gen_ternary_gen_unary_op_gen_while_loop_goto_one.Lts-adjust as adjust-lts
+use Rattle.statement.proofs.+ring.Lts-adjust as adjust-lts
 use Rattle.statement.proofs.args.Reads as args
 use Rattle.statement.proofs.args.Kinds as args-kinds
-use Rattle.statement.proofs.+adjust_args_drag_each_ends_exit_for_expr_gen_binary_op_gen_call_gen_expr_gen_for_loop_gen_function_gen_if_gen_statement_gen_statements_gen_switch_gen_ternary_gen_unary_op_gen_while_loop_goto_one.Lts-args as args-lts
+use Rattle.statement.proofs.+ring.Lts-args as args-lts
 use Rattle.statement.proofs.drag.Reads as drag
 use Rattle.statement.proofs.drag.Kinds as drag-kinds
-use Rattle.statement.proofs.+adjust_args_drag_each_ends_exit_for_expr_gen_binary_op_gen_call_gen_expr_gen_for_loop_gen_function_gen_if_gen_statement_gen_statements_gen_switch_gen_ternary_gen_unary_op_gen_while_loop_goto_one.Lts-drag as drag-lts
+use Rattle.statement.proofs.+ring.Lts-drag as drag-lts
 use Rattle.statement.proofs.each.Reads as each
 use Rattle.statement.proofs.each.Kinds as each-kinds
-use Rattle.statement.proofs.+adjust_args_drag_each_ends_exit_for_expr_gen_binary_op_gen_call_gen_expr_gen_for_loop_gen_function_gen_if_gen_statement_gen_statements_gen_switch_gen_ternary_gen_unary_op_gen_while_loop_goto_one.Lts-each as each-lts
+use Rattle.statement.proofs.+ring.Lts-each as each-lts
 use Rattle.statement.proofs.ends.Reads as ends
 use Rattle.statement.proofs.ends.Kinds as ends-kinds
-use Rattle.statement.proofs.+adjust_args_drag_each_ends_exit_for_expr_gen_binary_op_gen_call_gen_expr_gen_for_loop_gen_function_gen_if_gen_statement_gen_statements_gen_switch_gen_ternary_gen_unary_op_gen_while_loop_goto_one.Lts-ends as ends-lts
+use Rattle.statement.proofs.+ring.Lts-ends as ends-lts
 use Rattle.statement.proofs.exit.Reads as exit
 use Rattle.statement.proofs.exit.Kinds as exit-kinds
-use Rattle.statement.proofs.+adjust_args_drag_each_ends_exit_for_expr_gen_binary_op_gen_call_gen_expr_gen_for_loop_gen_function_gen_if_gen_statement_gen_statements_gen_switch_gen_ternary_gen_unary_op_gen_while_loop_goto_one.Lts-exit as exit-lts
+use Rattle.statement.proofs.+ring.Lts-exit as exit-lts
 use Rattle.statement.proofs.for_expr.Reads as for_expr
 use Rattle.statement.proofs.for_expr.Kinds as for-expr-kinds
-use Rattle.statement.proofs.+adjust_args_drag_each_ends_exit_for_expr_gen_binary_op_gen_call_gen_expr_gen_for_loop_gen_function_gen_if_gen_statement_gen_statements_gen_switch_gen_ternary_gen_unary_op_gen_while_loop_goto_one.Lts-for_expr as for-expr-lts
+use Rattle.statement.proofs.+ring.Lts-for_expr as for-expr-lts
 use Rattle.statement.proofs.gen_binary_op.Reads as gen_binary_op
 use Rattle.statement.proofs.gen_binary_op.Kinds as gen-binary-op-kinds
-use Rattle.statement.proofs.+adjust_args_drag_each_ends_exit_for_expr_gen_binary_op_gen_call_gen_expr_gen_for_loop_gen_function_gen_if_gen_statement_gen_statements_gen_switch_gen_ternary_gen_unary_op_gen_while_loop_goto_one.Lts-gen_binary_op as gen-binary-op-lts
+use Rattle.statement.proofs.+ring.Lts-gen_binary_op as gen-binary-op-lts
 use Rattle.statement.proofs.gen_call.Reads as gen_call
 use Rattle.statement.proofs.gen_call.Kinds as gen-call-kinds
-use Rattle.statement.proofs.+adjust_args_drag_each_ends_exit_for_expr_gen_binary_op_gen_call_gen_expr_gen_for_loop_gen_function_gen_if_gen_statement_gen_statements_gen_switch_gen_ternary_gen_unary_op_gen_while_loop_goto_one.Lts-gen_call as gen-call-lts
+use Rattle.statement.proofs.+ring.Lts-gen_call as gen-call-lts
 use Rattle.statement.proofs.gen_expr.Reads as gen_expr
 use Rattle.statement.proofs.gen_expr.Kinds as gen-expr-kinds
-use Rattle.statement.proofs.+adjust_args_drag_each_ends_exit_for_expr_gen_binary_op_gen_call_gen_expr_gen_for_loop_gen_function_gen_if_gen_statement_gen_statements_gen_switch_gen_ternary_gen_unary_op_gen_while_loop_goto_one.Lts-gen_expr as gen-expr-lts
+use Rattle.statement.proofs.+ring.Lts-gen_expr as gen-expr-lts
 use Rattle.statement.proofs.gen_for_loop.Reads as gen_for_loop
 use Rattle.statement.proofs.gen_for_loop.Kinds as gen-for-loop-kinds
-use Rattle.statement.proofs.+adjust_args_drag_each_ends_exit_for_expr_gen_binary_op_gen_call_gen_expr_gen_for_loop_gen_function_gen_if_gen_statement_gen_statements_gen_switch_gen_ternary_gen_unary_op_gen_while_loop_goto_one.Lts-gen_for_loop as gen-for-loop-lts
+use Rattle.statement.proofs.+ring.Lts-gen_for_loop as gen-for-loop-lts
 use Rattle.statement.proofs.gen_function.Reads as gen_function
 use Rattle.statement.proofs.gen_function.Kinds as gen-function-kinds
-use Rattle.statement.proofs.+adjust_args_drag_each_ends_exit_for_expr_gen_binary_op_gen_call_gen_expr_gen_for_loop_gen_function_gen_if_gen_statement_gen_statements_gen_switch_gen_ternary_gen_unary_op_gen_while_loop_goto_one.Lts-gen_function as gen-function-lts
+use Rattle.statement.proofs.+ring.Lts-gen_function as gen-function-lts
 use Rattle.statement.proofs.gen_if.Reads as gen_if
 use Rattle.statement.proofs.gen_if.Kinds as gen-if-kinds
-use Rattle.statement.proofs.+adjust_args_drag_each_ends_exit_for_expr_gen_binary_op_gen_call_gen_expr_gen_for_loop_gen_function_gen_if_gen_statement_gen_statements_gen_switch_gen_ternary_gen_unary_op_gen_while_loop_goto_one.Lts-gen_if as gen-if-lts
+use Rattle.statement.proofs.+ring.Lts-gen_if as gen-if-lts
 use Rattle.statement.proofs.gen_statement.Reads as gen_statement
 use Rattle.statement.proofs.gen_statement.Kinds as gen-statement-kinds
-use Rattle.statement.proofs.+adjust_args_drag_each_ends_exit_for_expr_gen_binary_op_gen_call_gen_expr_gen_for_loop_gen_function_gen_if_gen_statement_gen_statements_gen_switch_gen_ternary_gen_unary_op_gen_while_loop_goto_one.Lts-gen_statement as gen-statement-lts
+use Rattle.statement.proofs.+ring.Lts-gen_statement as gen-statement-lts
 use Rattle.statement.proofs.gen_statements.Reads as gen_statements
 use Rattle.statement.proofs.gen_statements.Kinds as gen-statements-kinds
-use Rattle.statement.proofs.+adjust_args_drag_each_ends_exit_for_expr_gen_binary_op_gen_call_gen_expr_gen_for_loop_gen_function_gen_if_gen_statement_gen_statements_gen_switch_gen_ternary_gen_unary_op_gen_while_loop_goto_one.Lts-gen_statements as gen-statements-lts
+use Rattle.statement.proofs.+ring.Lts-gen_statements as gen-statements-lts
 use Rattle.statement.proofs.gen_switch.Reads as gen_switch
 use Rattle.statement.proofs.gen_switch.Kinds as gen-switch-kinds
-use Rattle.statement.proofs.+adjust_args_drag_each_ends_exit_for_expr_gen_binary_op_gen_call_gen_expr_gen_for_loop_gen_function_gen_if_gen_statement_gen_statements_gen_switch_gen_ternary_gen_unary_op_gen_while_loop_goto_one.Lts-gen_switch as gen-switch-lts
+use Rattle.statement.proofs.+ring.Lts-gen_switch as gen-switch-lts
 use Rattle.statement.proofs.gen_ternary.Reads as gen_ternary
 use Rattle.statement.proofs.gen_ternary.Kinds as gen-ternary-kinds
-use Rattle.statement.proofs.+adjust_args_drag_each_ends_exit_for_expr_gen_binary_op_gen_call_gen_expr_gen_for_loop_gen_function_gen_if_gen_statement_gen_statements_gen_switch_gen_ternary_gen_unary_op_gen_while_loop_goto_one.Lts-gen_ternary as gen-ternary-lts
+use Rattle.statement.proofs.+ring.Lts-gen_ternary as gen-ternary-lts
 use Rattle.statement.proofs.gen_unary_op.Reads as gen_unary_op
 use Rattle.statement.proofs.gen_unary_op.Kinds as gen-unary-op-kinds
-use Rattle.statement.proofs.+adjust_args_drag_each_ends_exit_for_expr_gen_binary_op_gen_call_gen_expr_gen_for_loop_gen_function_gen_if_gen_statement_gen_statements_gen_switch_gen_ternary_gen_unary_op_gen_while_loop_goto_one.Lts-gen_unary_op as gen-unary-op-lts
+use Rattle.statement.proofs.+ring.Lts-gen_unary_op as gen-unary-op-lts
 use Rattle.statement.proofs.gen_while_loop.Reads as gen_while_loop
 use Rattle.statement.proofs.gen_while_loop.Kinds as gen-while-loop-kinds
-use Rattle.statement.proofs.+adjust_args_drag_each_ends_exit_for_expr_gen_binary_op_gen_call_gen_expr_gen_for_loop_gen_function_gen_if_gen_statement_gen_statements_gen_switch_gen_ternary_gen_unary_op_gen_while_loop_goto_one.Lts-gen_while_loop as gen-while-loop-lts
+use Rattle.statement.proofs.+ring.Lts-gen_while_loop as gen-while-loop-lts
 use Rattle.statement.proofs.goto.Reads as goto
 use Rattle.statement.proofs.goto.Kinds as goto-kinds
-use Rattle.statement.proofs.+adjust_args_drag_each_ends_exit_for_expr_gen_binary_op_gen_call_gen_expr_gen_for_loop_gen_function_gen_if_gen_statement_gen_statements_gen_switch_gen_ternary_gen_unary_op_gen_while_loop_goto_one.Lts-goto as goto-lts
+use Rattle.statement.proofs.+ring.Lts-goto as goto-lts
 use Rattle.statement.proofs.one.Reads as one
 use Rattle.statement.proofs.one.Kinds as one-kinds
-use Rattle.statement.proofs.+adjust_args_drag_each_ends_exit_for_expr_gen_binary_op_gen_call_gen_expr_gen_for_loop_gen_function_gen_if_gen_statement_gen_statements_gen_switch_gen_ternary_gen_unary_op_gen_while_loop_goto_one.Lts-one as one-lts
+use Rattle.statement.proofs.+ring.Lts-one as one-lts
 use Rattle.access.proofs.call.Reads as call-reads
 use Rattle.access.proofs.call_new.Reads as call-new-reads
 use Rattle.access.proofs.delete.Reads as delete-reads
@@ -163,10 +163,10 @@ use Rattle.tree.proofs.list_at.Reads as list-at-reads
 use Rattle.tree.proofs.node_at.Reads as node-at-reads
 use Rattle.tree.proofs.rest_of.Reads as rest-of-reads
 use Rattle.tree.proofs.width_of.Reads as width-of-reads
-use Rattle.statement.proofs.+adjust_args_drag_each_ends_exit_for_expr_gen_binary_op_gen_call_gen_expr_gen_for_loop_gen_function_gen_if_gen_statement_gen_statements_gen_switch_gen_ternary_gen_unary_op_gen_while_loop_goto_one.{
+use Rattle.statement.proofs.+ring.{
   statement,
 }
-use Rattle.statement.proofs.+adjust_args_drag_each_ends_exit_for_expr_gen_binary_op_gen_call_gen_expr_gen_for_loop_gen_function_gen_if_gen_statement_gen_statements_gen_switch_gen_ternary_gen_unary_op_gen_while_loop_goto_one.Tie.{
+use Rattle.statement.proofs.+ring.Tie.{
   close,
 }
 
