@@ -1,6 +1,5 @@
 -- Slices word by word: document 01's S3, a script with a function, a float and a property, and a list read from bytes.
 use Prim.Native.Nat.{ℕ, ◌-◌}
-use Prim.Native.String.{String}
 use mathlib.Core.Path.{◌≡◌, refl}
 use mathlib.Core.List.{List, [], ◌∷◌, ◌++◌, map}
 use mathlib.Core.Bool.{true, false}
