@@ -322,7 +322,7 @@ pub fn record_of(r: Row) -> Record
 }
 
 // A function's name: the index of its string, or none.
-#[derive(Drop)]
+#[derive(Clone, Copy)]
 pub enum Name {
     Index(u32),
     None,
@@ -330,7 +330,7 @@ pub enum Name {
 
 // A function's record. The marks in declaration order: preload_this, suppress_this, preload_arguments, suppress_arguments, preload_super,
 // suppress_super, preload_root, preload_parent, preload_global.
-#[derive(Drop)]
+#[derive(Clone, Copy)]
 pub struct Function {
     pub name: Name,
     pub register_count: u8,
