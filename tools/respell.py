@@ -50,6 +50,19 @@ AGAIN = {new: APART[old] for old, new in ((n, n.replace("-", "_")) for n in APAR
 AGAIN |= {n: n + "_lem" for n in "head_at labels_at labels_in list_at lists_at no_text same_bytes text_in value_in".split()}
 
 
+# Where a crate's own definition had the name in camel case, which port.py has turned to the same spelling.
+OF_CRATE = {
+    "action_reader": "place_of",
+    "action_writer": "body_at bytes_of lists_of",
+    "as2_codegen": "lists_of",
+    "definition": "lists_of",
+    "list_slice": "bytes_of",
+    "resolver": "lists_of",
+    "rows": "label_of",
+    "script": "bytes_of",
+}
+
+
 def files(ends):
     for folder, dirs, names in os.walk("crates"):
         dirs[:] = sorted(d for d in dirs if d != "out")
@@ -123,8 +136,12 @@ def respelled(name):
 
 
 def apart(path, text):
+    stays = OF_CRATE.get(path.split("/")[1], "").split()
+    if path == "crates/rascal/proofs/Joined.antt":
+        stays = ["lists_of"]
+
     def turn(m):
-        if m[0] not in AGAIN or text[m.end() : m.end() + 1] == "." or (path.endswith("Proof.antt") and text[m.start() - 1] == "."):
+        if m[0] not in AGAIN or m[0] in stays or text[m.end() : m.end() + 1] == "." or (path.endswith("Proof.antt") and text[m.start() - 1] == "."):
             return m[0]
         return AGAIN[m[0]]
 

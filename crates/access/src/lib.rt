@@ -23,7 +23,7 @@ use pcode::{Op, PushValue};
 use script_records::layout::Layout;
 use special_properties::{Property, get_special_property, is_null, is_undefined};
 
-#[derive(Drop)]
+#[derive(Clone, Copy)]
 pub enum Access {
     Variable,
     Object,
@@ -33,7 +33,7 @@ pub enum Access {
 }
 
 // A builder, and the access that it leaves.
-#[derive(Drop)]
+#[derive(Clone, Copy)]
 pub struct Accessed {
     pub b: CodeBuilder,
     pub access: Access,

@@ -15,7 +15,7 @@ use Rattle.action_reader.specs.declared.walk.Walk.{Walk}
 use Rattle.action_reader.specs.declared.places.Place.{Place}
 use Rattle.action_reader.specs.Walk.{settle, lands, is_branch, seek, found, or_zero}
 use Rattle.action_reader.specs.Layout.{layout}
-use Rattle.action_reader.specs.Places.{place_of_label}
+use Rattle.action_reader.specs.Places.{place_of}
 use Rattle.action_reader.specs.Lists.{Given, SettledAs}
 use Rattle.action_reader.proofs.Slice.{moves, reads_code, reads_first, reads_second}
 
@@ -93,17 +93,17 @@ module _ {w₀ : List ℕ} {s : Walk} {ps w : List ℕ} {low top : ℕ} (i : Set
 
   -- what the place says of the entry
 
-  place_found : (p : Place) → p ≡ cond (is_branch e.code) (place_of_label (seek e.first ps)) (place_of_label (some e.first)) → p.found ≡ lands ps e
+  place_found : (p : Place) → p ≡ cond (is_branch e.code) (place_of (seek e.first ps)) (place_of (some e.first)) → p.found ≡ lands ps e
   place_found p q = ap (λ (z : Place). z.found) q ∙ go (is_branch e.code)
     where
-      go : (b : Bool) → (cond b (place_of_label (seek e.first ps)) (place_of_label (some e.first))).found ≡ cond b (found (seek e.first ps)) true
+      go : (b : Bool) → (cond b (place_of (seek e.first ps)) (place_of (some e.first))).found ≡ cond b (found (seek e.first ps)) true
       go true = refl
       go false = refl
 
-  place_settles : (p : Place) → p ≡ cond (is_branch e.code) (place_of_label (seek e.first ps)) (place_of_label (some e.first)) → entry e.code p.word e.second ≡ settle ps e
+  place_settles : (p : Place) → p ≡ cond (is_branch e.code) (place_of (seek e.first ps)) (place_of (some e.first)) → entry e.code p.word e.second ≡ settle ps e
   place_settles p q = ap (λ (z : Place). entry e.code z.word e.second) q ∙ go (is_branch e.code)
     where
-      go : (b : Bool) → entry e.code (cond b (place_of_label (seek e.first ps)) (place_of_label (some e.first))).word e.second ≡
+      go : (b : Bool) → entry e.code (cond b (place_of (seek e.first ps)) (place_of (some e.first))).word e.second ≡
           cond b (entry e.code (or_zero (seek e.first ps)) e.second) e
       go true = refl
       go false = refl
@@ -126,7 +126,7 @@ module _ {w₀ : List ℕ} {s : Walk} {ps w : List ℕ} {low top : ℕ} (i : Set
       ∙ ap (layout (lows ++ map (settle ps) (take (suc k) xs)) rest ends) (sym l))
 
   -- an entry whose target is nowhere
-  pub lost : (p : Place) → p ≡ cond (is_branch e.code) (place_of_label (seek e.first ps)) (place_of_label (some e.first)) → p.found ≡ false → all (lands ps) xs ≡ false
+  pub lost : (p : Place) → p ≡ cond (is_branch e.code) (place_of (seek e.first ps)) (place_of (some e.first)) → p.found ≡ false → all (lands ps) xs ≡ false
   lost p q h =
       let z : lands ps e ≡ false = sym (place_found p q) ∙ h in
       ap (all (lands ps)) (sym (take-append-drop k xs)) ∙ rw (all_append (lands ps) (take k xs) (drop k xs), next_is, z) (never (all (lands ps) (take k xs)))
@@ -135,13 +135,13 @@ module _ {w₀ : List ℕ} {s : Walk} {ps w : List ℕ} {low top : ℕ} (i : Set
       never true = refl
       never false = refl
 
-  pub half_more : (p : Place) → p ≡ cond (is_branch e.code) (place_of_label (seek e.first ps)) (place_of_label (some e.first)) → p.found ≡ true → (w' : List ℕ) →
+  pub half_more : (p : Place) → p ≡ cond (is_branch e.code) (place_of (seek e.first ps)) (place_of (some e.first)) → p.found ≡ true → (w' : List ℕ) →
       w' ≡ put3 (put3 w top 0 0 0) low (get_or w (top * 3) 0) p.word (get_or w (top * 3 + 2) 0) → length w' ≡ length w → (m : ℕ) → m ≡ suc k → Half ps m lows xs up ends w'
   half_more p q h w' z l m a = rw a (record { landed = landed_more (sym (place_found p q) ∙ h); words = words_more w' p.word (place_settles p q) z l })
 
 module _ {w₀ : List ℕ} {s : Walk} {ps w : List ℕ} {low top : ℕ} (i : Settling w₀ s ps w low top) (cap : s.base ≤ 4096) (down : s.low ≤ s.top) where
   abbrev said : (code first : ℕ) → Place
-  said c f = cond (is_branch c) (place_of_label (seek f ps)) (place_of_label (some f))
+  said c f = cond (is_branch c) (place_of (seek f ps)) (place_of (some f))
 
   pub settle_again : top < s.base → (p : Place) → p ≡ said (get_or w (top * 3) 0) (get_or w (top * 3 + 1) 0) → p.found ≡ true → {w' : List ℕ} →
       w' ≡ put3 (put3 w top 0 0 0) low (get_or w (top * 3) 0) p.word (get_or w (top * 3 + 2) 0) → length w' ≡ length w → Settling w₀ s ps w' (low + 1) (top + 1)

@@ -20,11 +20,11 @@ abbrev pub part : List ℕ → (from to stop : ℕ) → List ℕ
 part t from to stop = take (to - from) (drop from t) ++ (stop ∷ [])
 
 -- what is found: the place, and 0 for none
-abbrev pub place_of_label : Option ℕ → Place
-place_of_label o = record { found = found o; word = or_zero o }
+abbrev pub place_of : Option ℕ → Place
+place_of o = record { found = found o; word = or_zero o }
 
 abbrev pub IsSeek : List ℕ → (from to stop x : ℕ) → Place → Type 0
-IsSeek t from to stop x r = r ≡ place_of_label (seek x (part t from to stop))
+IsSeek t from to stop x r = r ≡ place_of (seek x (part t from to stop))
 
 abbrev pub IsPlace : List ℕ → (from to stop code first : ℕ) → Place → Type 0
-IsPlace t from to stop code first r = r ≡ cond (is_branch code) (place_of_label (seek first (part t from to stop))) (place_of_label (some first))
+IsPlace t from to stop code first r = r ≡ cond (is_branch code) (place_of (seek first (part t from to stop))) (place_of (some first))

@@ -19,7 +19,7 @@ mod targets;
 mod walk;
 
 // How many bytes were read, or the refusal's number.
-#[derive(Drop)]
+#[derive(Clone, Copy)]
 pub enum Answer {
     Read(usize),
     Refused(u32),

@@ -23,7 +23,7 @@ fn move_as(list: &mut [u32], to: usize, from: usize, first: u32)
 }
 
 // Whether every branch leads to a place, and where the list's entries end below.
-#[derive(Drop)]
+#[derive(Clone, Copy)]
 pub struct Settled {
     pub landed: bool,
     pub low: usize,

@@ -3,7 +3,7 @@ ghost use Rattle.std.specs.Prelude.{◌+◌, ◌-◌, ◌<◌, ◌≤◌, length
 ghost use Rattle.action_reader.specs.Places.{Ordered, IsPlace, IsSeek, Sought};
 
 // What is sought, and whether it was found.
-#[derive(Drop)]
+#[derive(Clone, Copy)]
 pub struct Place {
     pub found: bool,
     pub word: u32,

@@ -3,7 +3,7 @@ ghost use Rattle.std.specs.Prelude.{◌≡◌, ◌+◌, ◌<◌};
 ghost use Rattle.action_reader.specs.Walk.{aim, aimable};
 
 // The byte, if the offset leads to one.
-#[derive(Drop)]
+#[derive(Clone, Copy)]
 pub struct Target {
     pub fits: bool,
     pub byte: usize,

@@ -7,7 +7,7 @@ use builder::entries::put;
 
 // The present list is read from `at` to `end`. Its entries stand from entry `top` to `base`, its positions in the table from `first` to `places`.
 // Finished lists stand below entry `low`. The phase is 0 while reading, 1 at the end, 2 after a refusal.
-#[derive(Drop)]
+#[derive(Clone, Copy)]
 pub struct Walk {
     pub phase: u32,
     pub at: usize,

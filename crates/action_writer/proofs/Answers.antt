@@ -19,7 +19,7 @@ use Rattle.action_format.specs.Encode.{short, unless_refused, encode}
 use Rattle.action_format.specs.ByList.{body_bytes}
 use Rattle.list_slice.specs.Words.{zeros_of}
 use Rattle.definition.specs.Outcome.{compiled, refused, by_place}
-use Rattle.definition.specs.Compile.{lists_of_outcome, written, if_lowered}
+use Rattle.definition.specs.Compile.{lists_of, written, if_lowered}
 use Rattle.resolver.specs.declared.Answer.{Answer}
 use Rattle.resolver.specs.Lowered.{Lowered}
 use Rattle.resolver.specs.Walk.{count_of}
@@ -27,7 +27,7 @@ use Rattle.resolver.specs.Resolved.{Resolved, Resolves}
 use Rattle.resolver.specs.Resolved as resolver
 use Rattle.resolver.proofs.Stand.{stands}
 use Rattle.action_writer.specs.declared.Written.TheVariants as answer
-use Rattle.action_writer.specs.Bodies.{body_at_code}
+use Rattle.action_writer.specs.Bodies.{body_at}
 use Rattle.action_writer.specs.Outcomes.{Leaves, top_bytes, top_outcome, Measured}
 use Rattle.action_writer.proofs.Ready.{same_lists, held}
 
@@ -50,7 +50,7 @@ is_true false h = absurd h
 
 module _ {F w : List ℕ} (h : Lowered F w) {sizes offsets : List ℕ} where
   pub refused_leaves : {r : Answer} → Resolves F w h.lists sizes offsets r → (r.refusal ≡ 0 → ⊥) → (o : List ℕ) → o ≡ zeros_of (length o) →
-      Leaves (if_lowered (lists_of_outcome limits01 F) (length o)) (length o) (answer.Refused r.refusal) o
+      Leaves (if_lowered (lists_of limits01 F) (length o)) (length o) (answer.Refused r.refusal) o
   unfolding zeros_of
   refused_leaves (resolver.refused e) q o z = rw (h.from, e (length o)) (record { number = refl; count = refl; whole = z })
   refused_leaves (resolver.good x y) q o z = absurd (q refl)
@@ -63,8 +63,8 @@ module _ {F w : List ℕ} (h : Lowered F w) {sizes offsets : List ℕ} where
     some-lists : 1 ≤ count_of w
     some-lists = (stands h bytes).some
 
-    top_body : body_at_code F w (count_of w - 1) ≡ body_bytes (by_place h.lists) 0
-    unfolding body_at_code
+    top_body : body_at F w (count_of w - 1) ≡ body_bytes (by_place h.lists) 0
+    unfolding body_at
     top_body =
         let e : count_of w - 1 + 1 ≡ count_of w = omega (arith, some-lists) in
         rw (eq-eqb (count_of w - 1 + 1) (count_of w) e, held h)
@@ -72,7 +72,7 @@ module _ {F w : List ℕ} (h : Lowered F w) {sizes offsets : List ℕ} where
     pub is-measured : Measured F w sizes
     is-measured = record { some = some-lists; top = x.tables.body_size 0 (omega (arith, some-lists)) ∙ ap length (sym top_body) }
 
-    top_is : (room : ℕ) → if_lowered (lists_of_outcome limits01 F) room ≡ top_outcome F w room
+    top_is : (room : ℕ) → if_lowered (lists_of limits01 F) room ≡ top_outcome F w room
     unfolding top_outcome top_bytes encode
     top_is room =
         let l = by_place h.lists in
@@ -84,5 +84,5 @@ module _ {F w : List ℕ} (h : Lowered F w) {sizes offsets : List ℕ} where
         by true = refl
         by false = refl
 
-    pub top-leaves : {room : ℕ} {r : _} {o : List ℕ} → Leaves (top_outcome F w room) room r o → Leaves (if_lowered (lists_of_outcome limits01 F) room) room r o
+    pub top-leaves : {room : ℕ} {r : _} {o : List ℕ} → Leaves (top_outcome F w room) room r o → Leaves (if_lowered (lists_of limits01 F) room) room r o
     top-leaves {room} y = rw (top_is room) y

@@ -13,7 +13,7 @@ use Rattle.byte_writer.specs.Header.{function_bytes}
 use Rattle.byte_writer.proofs.Writes.{wrote_none, wrote_then, written_append, written_over}
 use Rattle.byte_writer.proofs.Frames.{frame_length, framed_length}
 use Rattle.resolver.specs.Walk.{start_of, end_of}
-use Rattle.action_writer.specs.Bodies.{body_at_code, items_from, answer_bytes}
+use Rattle.action_writer.specs.Bodies.{body_at, items_from, bytes_of}
 use Rattle.action_writer.specs.Steps.{Joined, an-action, a-first-value, a-later-value, sort_of, OpenIn, Marks, Defines, Acts, Begins, Continues, Step, WritableList}
 
 pub start_next : (w : List ℕ) (j : ℕ) → (j ≡ 0 → ⊥) → end_of w (j - 1) ≡ start_of w j
@@ -53,17 +53,17 @@ joined {o} {o'} {o''} {at} {m} {n} begun a d v p b q =
 pub record Building (F : List ℕ) (l : Layout) (w sizes offsets : List ℕ) (j : ℕ) (o : List ℕ) (at : ℕ) (o' : List ℕ) (i next begun : ℕ) : Type 0 where
   pub low : start_of w j ≤ i
   pub high : i ≤ end_of w j
-  pub wrote : Wrote o at (answer_bytes F w j (items_from F w j i)) next o'
+  pub wrote : Wrote o at (bytes_of F w j (items_from F w j i)) next o'
   pub opened : OpenIn F l w sizes offsets j 0 (items_from F w j i) at begun
 
 module _ {F : List ℕ} {l : Layout} {w sizes offsets : List ℕ} {j : ℕ} (s : WritableList F l w sizes offsets j) (o : List ℕ) (at : ℕ) where
   pub building_start : Building F l w sizes offsets j o at o (end_of w j) at at
   building_start = record { low = s.order; high = omega arith; wrote = rw s.none (wrote_none o at); opened = s.start at at }
 
-  pub building_done : {o' : List ℕ} {i next begun : ℕ} → Building F l w sizes offsets j o at o' i next begun → i ≡ start_of w j → Wrote o at (body_at_code F w j) next o'
+  pub building_done : {o' : List ℕ} {i next begun : ℕ} → Building F l w sizes offsets j o at o' i next begun → i ≡ start_of w j → Wrote o at (body_at F w j) next o'
   building_done b e = rw (s.body, ← e) b.wrote
 
-  module _ (room : Room o at (body_at_code F w j)) {o' : List ℕ} {i next begun : ℕ} (b : Building F l w sizes offsets j o at o' i next begun) (q : i ≡ start_of w j → ⊥) where
+  module _ (room : Room o at (body_at F w j)) {o' : List ℕ} {i next begun : ℕ} (b : Building F l w sizes offsets j o at o' i next begun) (q : i ≡ start_of w j → ⊥) where
     abbrev e : ℕ
     e = i - 1
 
@@ -80,19 +80,19 @@ module _ {F : List ℕ} {l : Layout} {w sizes offsets : List ℕ} {j : ℕ} (s :
     step = s.step e low high
 
     abbrev prior : Bytes
-    prior = answer_bytes F w j (items_from F w j (e + 1))
+    prior = bytes_of F w j (items_from F w j (e + 1))
 
     given : Wrote o at prior next o'
     given = rw back b.wrote
 
-    within : length (answer_bytes F w j (items_from F w j e)) ≤ length (body_at_code F w j)
+    within : length (bytes_of F w j (items_from F w j e)) ≤ length (body_at F w j)
     within = s.rest e low (omega (arith, high))
 
     -- room for what the entry adds
-    room_for : (x : Bytes) → answer_bytes F w j (items_from F w j e) ≡ prior ++ x → Room o' next x
+    room_for : (x : Bytes) → bytes_of F w j (items_from F w j e) ≡ prior ++ x → Room o' next x
     room_for x k = omega (arith, within, ap length k, length-append prior x, given.after, given.long, room)
 
-    next_is : {x : Bytes} {n : ℕ} {o'' : List ℕ} → answer_bytes F w j (items_from F w j e) ≡ prior ++ x → Wrote o' next x n o'' → {f : ℕ} → OpenIn F l w sizes offsets j 0 (items_from F w j e) at f →
+    next_is : {x : Bytes} {n : ℕ} {o'' : List ℕ} → bytes_of F w j (items_from F w j e) ≡ prior ++ x → Wrote o' next x n o'' → {f : ℕ} → OpenIn F l w sizes offsets j 0 (items_from F w j e) at f →
         Building F l w sizes offsets j o at o'' e n f
     next_is k d p = record { low = low; high = omega (arith, high); wrote = rw k (wrote_then given d); opened = p }
 
@@ -115,7 +115,7 @@ module _ {F : List ℕ} {l : Layout} {w sizes offsets : List ℕ} {j : ℕ} (s :
       header' = function_bytes F l (get_or w (e * 3 + 2) 0) (get_or sizes (get_or w (e * 3 + 1) 0) 0)
 
       abbrev body' : Bytes
-      body' = body_at_code F w (get_or w (e * 3 + 1) 0 - 1)
+      body' = body_at F w (get_or w (e * 3 + 1) 0 - 1)
 
       pub header_room : Room o' next header'
       header_room = omega (arith, room_for (header' ++ body') defines.adds, length-append header' body')

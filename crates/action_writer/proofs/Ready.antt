@@ -38,7 +38,7 @@ use Rattle.resolver.specs.Resolved.{Tables, Resolved}
 use Rattle.resolver.proofs.Whole.{few_lists, long_slice, order_at, cap_at, split, lists_count, walked_list}
 use Rattle.resolver.proofs.Stand.{list_by_place, made, stands}
 use Rattle.resolver.proofs.Written.{body_walked}
-use Rattle.action_writer.specs.Bodies.{held_lists, number_in, body_at_code, items_from, answer_bytes}
+use Rattle.action_writer.specs.Bodies.{held_lists, number_in, body_at, items_from, bytes_of}
 use Rattle.action_writer.specs.Steps.{Sort, a_mark, a-function, an-action, a-first-value, a-later-value, sort_of, value', Step, WritableList, Writable}
 use Rattle.action_writer.proofs.Fits.{Ok, OkAction, Before, ok_before, ok_actions, lifted, all_before}
 use Rattle.action_writer.proofs.Stepping.{items_next, step_of}
@@ -109,8 +109,8 @@ module _ {F w : List ℕ} (h : Lowered F w) (bytes : Bytes F) {sizes offsets : L
     list_walked : list_at (lists_in limits01 F w) (number_in w j) ≡ reverse (walked_at F w j)
     list_walked = ap (λ (ls : List (List Item)). list_at ls (number_in w j)) (same_lists h) ∙ sym (walked_list h j q)
 
-    body_is : body_at_code F w j ≡ answer_bytes F w j (items_from F w j (start_of w j))
-    unfolding body_at_code answer_bytes items_from
+    body_is : body_at F w j ≡ bytes_of F w j (items_from F w j (start_of w j))
+    unfolding body_at bytes_of items_from
     body_is = rw (held h, same_lists h) (body_walked h bytes j q)
 
     items_ok : All (Ok L pool j) (items_from F w j (start_of w j))
@@ -135,23 +135,23 @@ module _ {F w : List ℕ} (h : Lowered F w) (bytes : Bytes F) {sizes offsets : L
         step_of F w l sizes offsets layout h tables pool j e q low high (piece_at w e) refl s.written s.named s.operand
         (rw n at (rw d at (ok_at (e - start_of w j) (omega arith)))) n
 
-    grows : (e : ℕ) (s : Sort) → Step F l w sizes offsets j e s → length (answer_bytes F w j (items_from F w j (e + 1))) ≤ length (answer_bytes F w j (items_from F w j e))
+    grows : (e : ℕ) (s : Sort) → Step F l w sizes offsets j e s → length (bytes_of F w j (items_from F w j (e + 1))) ≤ length (bytes_of F w j (items_from F w j e))
     grows e a_mark m = omega (arith, ap length m.adds)
     grows e a-function m =
         let x = get_or w (e * 3 + 1) 0 in
         omega (
           arith,
           ap length m.adds,
-          length-append (answer_bytes F w j (items_from F w j (e + 1))) (function_bytes F l (get_or w (e * 3 + 2) 0) (get_or sizes x 0) ++ body_at_code F w (x - 1)),
+          length-append (bytes_of F w j (items_from F w j (e + 1))) (function_bytes F l (get_or w (e * 3 + 2) 0) (get_or sizes x 0) ++ body_at F w (x - 1)),
         )
     grows e an-action m =
         omega (
           arith,
           ap length m.adds,
-          length-append (answer_bytes F w j (items_from F w j (e + 1))) (action_bytes F l w (get_or w (e * 3) 0) (get_or w (e * 3 + 1) 0) (get_or offsets e 0)),
+          length-append (bytes_of F w j (items_from F w j (e + 1))) (action_bytes F l w (get_or w (e * 3) 0) (get_or w (e * 3 + 1) 0) (get_or offsets e 0)),
         )
     grows e a-first-value m =
-        omega (arith, ap length m.adds, length-append (answer_bytes F w j (items_from F w j (e + 1))) (framed 0x96 (value' F l w sizes offsets j e)))
+        omega (arith, ap length m.adds, length-append (bytes_of F w j (items_from F w j (e + 1))) (framed 0x96 (value' F l w sizes offsets j e)))
     grows e a-later-value m =
         let v = value' F l w sizes offsets j e in
         omega (
@@ -165,7 +165,7 @@ module _ {F w : List ℕ} (h : Lowered F w) (bytes : Bytes F) {sizes offsets : L
           length-append m.data' v,
         )
 
-    rest_at : (n : ℕ) → start_of w j + n ≤ end_of w j → length (answer_bytes F w j (items_from F w j (start_of w j + n))) ≤ length (body_at_code F w j)
+    rest_at : (n : ℕ) → start_of w j + n ≤ end_of w j → length (bytes_of F w j (items_from F w j (start_of w j + n))) ≤ length (body_at F w j)
     rest_at zero k = let e : start_of w j + 0 ≡ start_of w j = omega arith in rw (e, body_is) (omega arith)
     rest_at (suc n) k =
         let e : start_of w j + suc n ≡ start_of w j + n + 1 = omega arith in
@@ -176,8 +176,8 @@ module _ {F w : List ℕ} (h : Lowered F w) (bytes : Bytes F) {sizes offsets : L
     unfolding items_from walked gathered run
     none_left = let e : end_of w j - end_of w j ≡ 0 = omega arith in rw e
 
-    no_bytes : answer_bytes F w j [] ≡ []
-    unfolding answer_bytes walked_bytes
+    no_bytes : bytes_of F w j [] ≡ []
+    unfolding bytes_of walked_bytes
     no_bytes = refl
 
     writable_list : WritableList F l w sizes offsets j

@@ -36,7 +36,7 @@ use Rattle.resolver.specs.Texts.{Operand}
 use Rattle.resolver.specs.Resolved.{Tables}
 use Rattle.resolver.proofs.Whole.{few_lists, long_slice}
 use Rattle.resolver.proofs.OpCodes.{op_code, op_says}
-use Rattle.action_writer.specs.Bodies.{held_lists, number_in, body_at_code, items_from, answer_bytes}
+use Rattle.action_writer.specs.Bodies.{held_lists, number_in, body_at, items_from, bytes_of}
 use Rattle.action_writer.specs.Steps.{an-action, a-first-value, a-later-value, sort_of, OpenIn, Continues, Step}
 use Rattle.action_writer.proofs.Fits.{Ok}
 use Rattle.action_writer.proofs.PieceBytes.{value_is, op_is, pool_is, store_is, frame_is, frame2_is, label_is, branch_is}
@@ -84,12 +84,12 @@ module _ (F w : List ℕ) (l : Layout) (sizes offsets : List ℕ) (layout : l �
     abbrev At : Type 0
     At = Step F l w sizes offsets j e (sort_of (get_or w (e * 3) 0))
 
-    bytes_more : (x : Action) (is : List Item) → answer_bytes F w j (action x ∷ is) ≡ answer_bytes F w j is ++ action_bytes_at L k (length (actions is)) (rebranch f x)
-    unfolding answer_bytes walked_bytes
+    bytes_more : (x : Action) (is : List Item) → bytes_of F w j (action x ∷ is) ≡ bytes_of F w j is ++ action_bytes_at L k (length (actions is)) (rebranch f x)
+    unfolding bytes_of walked_bytes
     bytes_more x is = refl
 
-    bytes_mark : (m : ℕ) (is : List Item) → answer_bytes F w j (mark m ∷ is) ≡ answer_bytes F w j is
-    unfolding answer_bytes walked_bytes
+    bytes_mark : (m : ℕ) (is : List Item) → bytes_of F w j (mark m ∷ is) ≡ bytes_of F w j is
+    unfolding bytes_of walked_bytes
     bytes_mark m is = refl
 
     -- the words of entry e
@@ -128,8 +128,8 @@ module _ (F w : List ℕ) (l : Layout) (sizes offsets : List ℕ) (layout : l �
         let z : n - 1 + 1 ≡ n = omega arith in
         rw (z, ne_eqb n (count_of w) (λ y. omega arith))
 
-    body_back : (n : ℕ) → 1 ≤ n → n ≤ j → body_at_code F w (n - 1) ≡ body_bytes L n
-    unfolding body_at_code
+    body_back : (n : ℕ) → 1 ≤ n → n ≤ j → body_at F w (n - 1) ≡ body_bytes L n
+    unfolding body_at
     body_back n a b = ap (body_bytes L) (number_back n a b)
 
     size_of : (n : ℕ) → n ≤ j → get_or sizes n 0 ≡ length (body_bytes L n)
@@ -167,7 +167,7 @@ module _ (F w : List ℕ) (l : Layout) (sizes offsets : List ℕ) (layout : l �
           short = rw (code_is q, first_is q, second_is q, d) (rw n at ok.1);
           adds =
               rw (code_is q, first_is q, second_is q, d, items) (bytes_more (push (value_of_lem v ∷ [])) G
-              ∙ ap (λ (x : Bytes). answer_bytes F w j G ++ x) (push_framed (value_of_lem v ∷ []) ∙ rw n));
+              ∙ ap (λ (x : Bytes). bytes_of F w j G ++ x) (push_framed (value_of_lem v ∷ []) ∙ rw n));
           opens = λ at. rw items refl;
         })
 
@@ -178,12 +178,12 @@ module _ (F w : List ℕ) (l : Layout) (sizes offsets : List ℕ) (layout : l �
     later_on v d x (action (push (u ∷ us)) ∷ is) g ok items z =
         let m : join value_bytes (u ∷ (us ++ (v ∷ []))) ≡ join value_bytes (u ∷ us) ++ d = join_append value_bytes (u ∷ us) (v ∷ []) ∙ rw (append-nil (value_bytes v), x) in
         record {
-          front = answer_bytes F w j is;
+          front = bytes_of F w j is;
           data' = join value_bytes (u ∷ us);
-          was = rw g (bytes_more (push (u ∷ us)) is ∙ ap (λ (y : Bytes). answer_bytes F w j is ++ y) (push_framed (u ∷ us)));
+          was = rw g (bytes_more (push (u ∷ us)) is ∙ ap (λ (y : Bytes). bytes_of F w j is ++ y) (push_framed (u ∷ us)));
           adds =
               rw (z, items) (bytes_more (push (u ∷ (us ++ (v ∷ [])))) is
-              ∙ ap (λ (y : Bytes). answer_bytes F w j is ++ y) (push_framed (u ∷ (us ++ (v ∷ []))) ∙ ap (framed 0x96) m));
+              ∙ ap (λ (y : Bytes). bytes_of F w j is ++ y) (push_framed (u ∷ (us ++ (v ∷ []))) ∙ ap (framed 0x96) m));
           short = rw z (rw m at ok.0.1);
           opened = λ at begun o. rw g at o;
           opens = λ at. rw items refl;

@@ -13,7 +13,7 @@ use Rattle.definition.specs.Outcome.{Outcome}
 use Rattle.resolver.specs.Walk.{count_of}
 use Rattle.action_writer.specs.declared.Written.{Written}
 use Rattle.action_writer.specs.declared.Written.TheVariants as written
-use Rattle.action_writer.specs.Bodies.{body_at_code}
+use Rattle.action_writer.specs.Bodies.{body_at}
 use Rattle.action_writer.specs.Outcomes.{Leaves, top_bytes, top_outcome, Measured}
 
 pub cleared_leaves : (f : ℕ → Outcome) (o : List ℕ) {x : List ℕ} → x ≡ zeros_of (length o) → {r : Written} {out : List ℕ} → Leaves (f (length x)) (length x) r out →
@@ -31,7 +31,7 @@ zeros_drop (suc n) (suc k) = let e : suc n - suc k ≡ n - k = omega arith in rw
 module _ (F w sizes : List ℕ) (m : Measured F w sizes) (o : List ℕ) (z : o ≡ zeros_of (length o)) {size : ℕ} (e : size ≡ get_or sizes 0 0) where
   bytes_long : length (top_bytes F w) ≡ size + 1
   unfolding top_bytes
-  bytes_long = omega (arith, length-append (body_at_code F w (count_of w - 1)) (0 ∷ []), m.top, e)
+  bytes_long = omega (arith, length-append (body_at F w (count_of w - 1)) (0 ∷ []), m.top, e)
 
   pub top_refused : length o ≤ size → Leaves (top_outcome F w (length o)) (length o) (written.Refused 12) o
   unfolding top_outcome zeros_of
@@ -39,10 +39,10 @@ module _ (F w sizes : List ℕ) (m : Measured F w sizes) (o : List ℕ) (z : o �
       rw (lt-leb (length (top_bytes F w)) (length o) (omega (arith, bytes_long)))
       (record { number = refl; count = refl; whole = z })
 
-  pub top_room : size < length o → Room o 0 (body_at_code F w (count_of w - 1))
+  pub top_room : size < length o → Room o 0 (body_at F w (count_of w - 1))
   top_room h = omega (arith, m.top, e)
 
-  joined : {end n : ℕ} {o₁ o₂ : List ℕ} → Wrote o 0 (body_at_code F w (count_of w - 1)) end o₁ → Wrote o₁ end (0 ∷ []) n o₂ → Wrote o 0 (top_bytes F w) n o₂
+  joined : {end n : ℕ} {o₁ o₂ : List ℕ} → Wrote o 0 (body_at F w (count_of w - 1)) end o₁ → Wrote o₁ end (0 ∷ []) n o₂ → Wrote o 0 (top_bytes F w) n o₂
   unfolding top_bytes
   joined a b = wrote_then a b
 
@@ -51,7 +51,7 @@ module _ (F w sizes : List ℕ) (m : Measured F w sizes) (o : List ℕ) (z : o �
       let k : 0 + length (top_bytes F w) ≡ length (top_bytes F w) = omega arith in
       rw k (ap (drop (length (top_bytes F w))) z ∙ zeros_drop (length o) (length (top_bytes F w)))
 
-  pub top_done : size < length o → {end n : ℕ} {o₁ o₂ : List ℕ} → Wrote o 0 (body_at_code F w (count_of w - 1)) end o₁ → Wrote o₁ end (0 ∷ []) n o₂ →
+  pub top_done : size < length o → {end n : ℕ} {o₁ o₂ : List ℕ} → Wrote o 0 (body_at F w (count_of w - 1)) end o₁ → Wrote o₁ end (0 ∷ []) n o₂ →
       Leaves (top_outcome F w (length o)) (length o) (written.Bytes n) o₂
   unfolding top_outcome
   top_done h a b =

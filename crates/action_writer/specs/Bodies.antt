@@ -19,13 +19,13 @@ held_lists F w = by_place (lists_in limits01 F w)
 abbrev pub number_in : List ℕ → ℕ → ℕ
 number_in w j = number_at (count_of w) j
 
-unfoldable pub body_at_code : List ℕ → List ℕ → (j : ℕ) → Bytes
-body_at_code F w j = body_bytes (held_lists F w) (number_in w j)
+unfoldable pub body_at : List ℕ → List ℕ → (j : ℕ) → Bytes
+body_at F w j = body_bytes (held_lists F w) (number_in w j)
 
 -- the items that the entries from i on say, the last item first, and their bytes
 
 unfoldable pub items_from : List ℕ → List ℕ → (j i : ℕ) → List Item
 items_from F w j i = walked F w i (end_of w j - i)
 
-unfoldable pub answer_bytes : List ℕ → List ℕ → (j : ℕ) → List Item → Bytes
-answer_bytes F w j is = walked_bytes (held_lists F w) (number_in w j) (place_of_label (list_at (lists_in limits01 F w) (number_in w j))) is
+unfoldable pub bytes_of : List ℕ → List ℕ → (j : ℕ) → List Item → Bytes
+bytes_of F w j is = walked_bytes (held_lists F w) (number_in w j) (place_of_label (list_at (lists_in limits01 F w) (number_in w j))) is

@@ -7,7 +7,7 @@ use Rattle.definition.specs.Outcome.{Outcome, compiled, refused, number_of, leng
 use Rattle.resolver.specs.Walk.{count_of}
 use Rattle.action_writer.specs.declared.Written.{Written}
 use Rattle.action_writer.specs.declared.Written.TheVariants as written
-use Rattle.action_writer.specs.Bodies.{body_at_code}
+use Rattle.action_writer.specs.Bodies.{body_at}
 
 -- the number of the answer, 0 for none, and the length
 abbrev pub number_is : Written → ℕ
@@ -26,7 +26,7 @@ pub record Leaves (o : Outcome) (room : ℕ) (r : Written) (output : List ℕ) :
 
 -- the top list's body and End
 unfoldable pub top_bytes : List ℕ → List ℕ → Bytes
-top_bytes F w = body_at_code F w (count_of w - 1) ++ (0 ∷ [])
+top_bytes F w = body_at F w (count_of w - 1) ++ (0 ∷ [])
 
 unfoldable pub top_outcome : List ℕ → List ℕ → (room : ℕ) → Outcome
 top_outcome F w room = cond (leb (length (top_bytes F w)) room) (compiled (top_bytes F w) (lists_in limits01 F w)) (refused 12)
@@ -34,4 +34,4 @@ top_outcome F w room = cond (leb (length (top_bytes F w)) room) (compiled (top_b
 -- the top list's bytes are known
 pub record Measured (F w sizes : List ℕ) : Type 0 where
   pub some : 1 ≤ count_of w
-  pub top : get_or sizes 0 0 ≡ length (body_at_code F w (count_of w - 1))
+  pub top : get_or sizes 0 0 ≡ length (body_at F w (count_of w - 1))

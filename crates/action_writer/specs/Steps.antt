@@ -7,7 +7,7 @@ use Rattle.byte_writer.specs.Written.{written_at}
 use Rattle.byte_writer.specs.Data.{frame, framed, value_data, action_data, action_bytes}
 use Rattle.byte_writer.specs.Header.{function_data, function_bytes, IsFunction}
 use Rattle.resolver.specs.Walk.{count_of, start_of, end_of}
-use Rattle.action_writer.specs.Bodies.{body_at_code, items_from, answer_bytes}
+use Rattle.action_writer.specs.Bodies.{body_at, items_from, bytes_of}
 
 -- what a writer of a later value gives: the value at `at`, and the length of the Push's record at `begun` anew
 pub record Joined (o : List ℕ) (begun at : ℕ) (v : Bytes) (next : ℕ) (o' : List ℕ) : Type 0 where
@@ -34,16 +34,16 @@ module _ (F : List ℕ) (l : Layout) (w sizes offsets : List ℕ) (j e : ℕ) wh
 
   -- the bytes before entry e, and with it
   abbrev pub before : Bytes
-  before = answer_bytes F w j (items_from F w j (e + 1))
+  before = bytes_of F w j (items_from F w j (e + 1))
 
   abbrev pub with' : Bytes
-  with' = answer_bytes F w j (items_from F w j e)
+  with' = bytes_of F w j (items_from F w j e)
 
   -- if the last item is a Push, its record is at `begun`
   abbrev pub OpenIn : List Item → (at begun : ℕ) → Type 0
   OpenIn [] at begun = Unit
   OpenIn (mark m ∷ is) at begun = Unit
-  OpenIn (action (push vs) ∷ is) at begun = begun ≡ at + length (answer_bytes F w j is)
+  OpenIn (action (push vs) ∷ is) at begun = begun ≡ at + length (bytes_of F w j is)
   OpenIn (action (plain p) ∷ is) at begun = Unit
   OpenIn (action (branch b p) ∷ is) at begun = Unit
   OpenIn (action (define h n) ∷ is) at begun = Unit
@@ -61,7 +61,7 @@ module _ (F : List ℕ) (l : Layout) (w sizes offsets : List ℕ) (j e : ℕ) wh
     pub earlier : first ≤ j
     pub known : first < 1024
     pub short : length (function_data F l second (get_or sizes first 0)) ≤ 65535
-    pub adds : with' ≡ before ++ (function_bytes F l second (get_or sizes first 0) ++ body_at_code F w (first - 1))
+    pub adds : with' ≡ before ++ (function_bytes F l second (get_or sizes first 0) ++ body_at F w (first - 1))
     pub free : (at begun : ℕ) → OpenIn (items_from F w j e) at begun
 
   pub record Acts : Type 0 where
@@ -95,11 +95,11 @@ module _ (F : List ℕ) (l : Layout) (w sizes offsets : List ℕ) (j e : ℕ) wh
 pub record WritableList (F : List ℕ) (l : Layout) (w sizes offsets : List ℕ) (j : ℕ) : Type 0 where
   pub order : start_of w j ≤ end_of w j
   pub cap : end_of w j ≤ 4096
-  pub body : body_at_code F w j ≡ answer_bytes F w j (items_from F w j (start_of w j))
-  pub none : answer_bytes F w j (items_from F w j (end_of w j)) ≡ []
+  pub body : body_at F w j ≡ bytes_of F w j (items_from F w j (start_of w j))
+  pub none : bytes_of F w j (items_from F w j (end_of w j)) ≡ []
   pub start : (at begun : ℕ) → OpenIn F l w sizes offsets j 0 (items_from F w j (end_of w j)) at begun
   pub step : (e : ℕ) → start_of w j ≤ e → e < end_of w j → Step F l w sizes offsets j e (sort_of (get_or w (e * 3) 0))
-  pub rest : (e : ℕ) → start_of w j ≤ e → e ≤ end_of w j → length (answer_bytes F w j (items_from F w j e)) ≤ length (body_at_code F w j)
+  pub rest : (e : ℕ) → start_of w j ≤ e → e ≤ end_of w j → length (bytes_of F w j (items_from F w j e)) ≤ length (body_at F w j)
 
 pub record Writable (F : List ℕ) (l : Layout) (w sizes offsets : List ℕ) : Type 0 where
   pub long : 16384 ≤ length w

@@ -19,7 +19,7 @@ use script_records::layout::{Layout, layout_of};
 use zeros::clear_bytes;
 
 // How many bytes were written, or the refusal's number.
-#[derive(Drop)]
+#[derive(Clone, Copy)]
 pub enum Written {
     Bytes(usize),
     Refused(u32),

@@ -19,7 +19,7 @@ use Rattle.list_slice.specs.Words.{zeros_of}
 use Rattle.list_slice.specs.Compiled.{Holds}
 use Rattle.list_slice.proofs.Areas.{zeros_length}
 use Rattle.zeros.proofs.Clearing.{zeros_zeros}
-use Rattle.definition.specs.Compile.{lists_of_outcome, lowered_with}
+use Rattle.definition.specs.Compile.{lists_of, lowered_with}
 use Rattle.codegen_state.specs.declared.CodeBuilder.{CodeBuilder}
 use Rattle.codegen_state.specs.View.{state, Waiting, waiting, holds, stopped, held, back, carry, after}
 use Rattle.codegen_state.specs.Does.{Does}
@@ -87,20 +87,20 @@ module _ (F : List ℕ) (accepted : check_of F ≡ 0) (l : Layout) (p : Part) (i
     unfolding after carry
     same = (rw all_statements at d).same ∙ rw (held_holds F (tt {0}) b w g.unrefused, g.starts)
 
-    result : lists_of_outcome limits01 F ≡ finish generated
+    result : lists_of limits01 F ≡ finish generated
     unfolding script_to_actions generate_actions
     result = rw (sym (accepted_trees F accepted))
 
-    lists_are : r.refused ≡ 0 → lists_of_outcome limits01 F ≡ lists (finished (state F r w'))
+    lists_are : r.refused ≡ 0 → lists_of limits01 F ≡ lists (finished (state F r w'))
     lists_are h = result ∙ lists_at_lem F r w' (waiting b w) (eqb r.refused 0) refl generated same h
 
-    refusal_is : (r.refused ≡ 0 → ⊥) → lists_of_outcome limits01 F ≡ refusal r.refused
+    refusal_is : (r.refused ≡ 0 → ⊥) → lists_of limits01 F ≡ refusal r.refused
     refusal_is h = result ∙ refusal_at F r w' (waiting b w) generated same h
 
     pub base_is : r.refused ≡ 0 → r.base ≡ 4096
     base_is h = top_base F (gen_statements no_loop (meanings_at F p)) b r w w' g.base d h
 
-    lowered_is : (n : ℕ) → 16384 ≤ n → lowered_with limits01 F n ≡ lists_of_outcome limits01 F
+    lowered_is : (n : ℕ) → 16384 ≤ n → lowered_with limits01 F n ≡ lists_of limits01 F
     unfolding lowered_with
     lowered_is n room = rw (le-ltb n 16384 room, accepted)
 

@@ -24,7 +24,7 @@ use statement::gen_statements;
 use zeros::clear_words;
 
 // The lists stand in the list slice, or the refusal.
-#[derive(Drop)]
+#[derive(Clone, Copy)]
 pub enum Lowered {
     Lists,
     Refused(u32),

@@ -129,7 +129,7 @@ pub fn joins(list: &[u32], b: CodeBuilder) -> bool
 }
 
 // A value's type number and its two words.
-#[derive(Drop)]
+#[derive(Clone, Copy)]
 pub struct ValueWords {
     pub kind: u32,
     pub first: u32,

@@ -21,7 +21,7 @@ use script_records::part::Part;
 use tree::{counts_of, list_at, node_at};
 
 // A parameter: the reference of its name, and its register.
-#[derive(Drop)]
+#[derive(Clone, Copy)]
 pub struct Param {
     pub name: u32,
     pub register: u32,

@@ -7,7 +7,7 @@
 // function's list to end. The finished lists end before entry `low`; the list under construction stands from entry `top` to `base`, its last entry
 // first, and the lists that wait from `base` on. What nearly every step changes stands before the rest: the struct is copied in pieces, and the
 // pieces that no step changed wait for none.
-#[derive(Drop)]
+#[derive(Clone, Copy)]
 pub struct CodeBuilder {
     pub actions: u32,
     pub size: u32,

@@ -30,7 +30,7 @@ pub fn text(file: &[u8], l: Layout, s: u32) -> &[u8]
 }
 
 // The place of a string in the pool, or none.
-#[derive(Drop)]
+#[derive(Clone, Copy)]
 enum Found {
     At(u32),
     Nothing,

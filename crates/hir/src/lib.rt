@@ -1,13 +1,13 @@
 #![tactic(auto)]
 
 // The decoded record of a script file (`hir.rs`). A string is its index in the string table; the children are records of their own.
-#[derive(Drop)]
+#[derive(Clone, Copy)]
 pub enum Affix {
     Postfix,
     Prefix,
 }
 
-#[derive(Drop)]
+#[derive(Clone, Copy)]
 pub enum UnaryOperator {
     Sub,
     Add,
@@ -17,7 +17,7 @@ pub enum UnaryOperator {
     LogicalNot,
 }
 
-#[derive(Drop)]
+#[derive(Clone, Copy)]
 pub enum BinaryOperator {
     Add,
     Assign,
@@ -65,7 +65,7 @@ pub enum BinaryOperator {
 }
 
 // The kinds whose children are generated in order and followed by one action.
-#[derive(Drop)]
+#[derive(Clone, Copy)]
 pub enum SimpleKind {
     AsciiToChar,
     MBAsciiToChar,
@@ -98,7 +98,7 @@ pub enum SimpleKind {
 }
 
 // A float is its low and its high word.
-#[derive(Drop)]
+#[derive(Clone, Copy)]
 pub enum ConstantKind {
     String(u32),
     Identifier(u32),
@@ -109,7 +109,7 @@ pub enum ConstantKind {
 }
 
 // A name is its index plus 1, or 0; the marks are bits 0 to 8.
-#[derive(Drop)]
+#[derive(Clone, Copy)]
 pub enum ExprKind {
     Constant(ConstantKind),
     Simple(SimpleKind),
@@ -135,19 +135,19 @@ pub enum ExprKind {
     SetProperty(i32),
 }
 
-#[derive(Drop)]
+#[derive(Clone, Copy)]
 pub enum EnumeratorTarget {
     Variable { name: u32, declare: bool },
     Register(u8),
 }
 
-#[derive(Drop)]
+#[derive(Clone, Copy)]
 pub enum ForCondition {
     Enumerate(EnumeratorTarget),
     Classic,
 }
 
-#[derive(Drop)]
+#[derive(Clone, Copy)]
 pub enum StatementKind {
     Declare(u32),
     Return,
@@ -163,7 +163,7 @@ pub enum StatementKind {
 }
 
 // Other: a record that refusal 3 names, or that no kind has.
-#[derive(Drop)]
+#[derive(Clone, Copy)]
 pub enum Record {
     Statement(StatementKind),
     Expr(ExprKind),

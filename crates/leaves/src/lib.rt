@@ -77,7 +77,7 @@ pub fn read_constant(
 }
 
 // A builder, and the trees that are still to be generated.
-#[derive(Drop)]
+#[derive(Clone, Copy)]
 pub struct Pushed {
     pub b: CodeBuilder,
     pub left: Part,

@@ -11,7 +11,7 @@ use pcode::Op;
 pub mod shape;
 
 // The operands and an action, perhaps a Not, perhaps an assignment; or one of three others.
-#[derive(Drop)]
+#[derive(Clone, Copy)]
 pub enum Plan {
     Trivial(Op),
     TrivialNot(Op),

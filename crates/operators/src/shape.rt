@@ -7,7 +7,7 @@ ghost use Rattle.operators.specs.Shapes.{kind_shape, root_shape, constant_litera
 use hir::{ConstantKind, ExprKind, Record};
 
 // An expression before it is generated.
-#[derive(Drop)]
+#[derive(Clone, Copy)]
 pub enum Shape {
     Constant(ConstantKind),
     Field,
@@ -67,7 +67,7 @@ pub fn shape_of(root: Record) -> Shape
 }
 
 // The constants that negation and GotoFrame look at.
-#[derive(Drop)]
+#[derive(Clone, Copy)]
 pub enum Literal {
     String(u32),
     Integer(i32),

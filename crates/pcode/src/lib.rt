@@ -5,7 +5,7 @@ ghost use Rattle.pcode.specs.Pcode.{Delta, row, row_of};
 ghost use Rattle.pcode.specs.Moves.{Moves};
 
 // An action without operands, by its code.
-#[derive(Drop)]
+#[derive(Clone, Copy)]
 pub enum Op {
     NextFrame,
     PrevFrame,
@@ -84,7 +84,7 @@ pub enum Op {
 }
 
 // What a Push pushes. A string is its reference, a float its low and its high word.
-#[derive(Drop)]
+#[derive(Clone, Copy)]
 pub enum PushValue {
     String(u32),
     Null,
@@ -97,17 +97,17 @@ pub enum PushValue {
 }
 
 // A label's number, an action's position in its list, and a byte offset: none stands for another.
-#[derive(Drop)]
+#[derive(Clone, Copy)]
 pub struct Label(pub u32);
 
-#[derive(Drop)]
+#[derive(Clone, Copy)]
 pub struct Position(pub u32);
 
-#[derive(Drop)]
+#[derive(Clone, Copy)]
 pub struct ByteOffset(pub u32);
 
 // An action's code and how it moves the tracked stack size (`stack_delta`): down, but not below 0, and then up by one or not.
-#[derive(Drop)]
+#[derive(Clone, Copy)]
 pub struct Row {
     pub code: u32,
     pub down: u32,

@@ -20,7 +20,7 @@ use Rattle.action_format.specs.Offsets.{by_offset, all_near}
 use Rattle.action_format.specs.Encode as action_format
 use Rattle.action_format.specs.Encode.{encode, short, unless_refused}
 use Rattle.definition.specs.Outcome.{Outcome, refused, by_place, number_of, length_of, output_of}
-use Rattle.definition.specs.Compile.{lists_of_outcome, lowered_with, written, if_lowered, compile_with}
+use Rattle.definition.specs.Compile.{lists_of, lowered_with, written, if_lowered, compile_with}
 use Rattle.definition.specs.Left.{Compiles, LeftList, outcome_lists}
 use Rattle.definition.proofs.Ways.{lowered_by}
 use Rattle.as2_codegen.specs.declared.Lowered as code
@@ -96,7 +96,7 @@ module _ (F : List ℕ) (n : ℕ) where
 -- lists that were made, and what the writer left
 module _ (F w : List ℕ) (h : Lowered F w) (n room : ℕ) (long : 16384 ≤ n) where
   abbrev outcome : Outcome
-  outcome = if_lowered (lists_of_outcome limits01 F) room
+  outcome = if_lowered (lists_of limits01 F) room
 
   is : compile_with limits01 F n room ≡ outcome
   unfolding compile_with lowered_with

@@ -16,7 +16,7 @@ use zeros::{clear_bytes, clear_words};
 pub mod exports;
 
 // How many bytes were written, or the refusal.
-#[derive(Drop)]
+#[derive(Clone, Copy)]
 pub enum Compiled {
     Bytes(usize),
     Refused(u32),

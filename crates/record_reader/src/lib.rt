@@ -18,7 +18,7 @@ mod push;
 pub mod values;
 
 // What a record is: an action whose entry is code, first, 0; or the counts and numbers that its entries are made of.
-#[derive(Drop)]
+#[derive(Clone, Copy)]
 pub enum Kind {
     // No record can be read.
     Nothing,
@@ -30,7 +30,7 @@ pub enum Kind {
 }
 
 // A record ends before `next`; `fits` is false if it breaks a rule on lists by itself.
-#[derive(Drop)]
+#[derive(Clone, Copy)]
 pub struct Head {
     pub kind: Kind,
     pub next: usize,
@@ -38,7 +38,7 @@ pub struct Head {
 }
 
 // The entry of a pushed value, with the base 0 in its code.
-#[derive(Drop)]
+#[derive(Clone, Copy)]
 pub struct ReadValue {
     pub read: bool,
     pub code: u32,

@@ -11,7 +11,7 @@ use crate::{Head, Kind};
 use utf8::is_utf8;
 
 // Whether something was read, the position after it, and whether its strings are UTF-8.
-#[derive(Drop)]
+#[derive(Clone, Copy)]
 pub struct Step {
     pub read: bool,
     pub next: usize,

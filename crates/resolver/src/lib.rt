@@ -18,7 +18,7 @@ use crate::passes::{clear_lists, measure_lists};
 use script_records::layout::Layout;
 
 // The refusal's number, 0 if there is none, and then the bytes of the top list's body.
-#[derive(Drop)]
+#[derive(Clone, Copy)]
 pub struct Answer {
     pub refusal: u32,
     pub bytes: u32,

@@ -10,7 +10,7 @@ use crate::walk::{clear_list, mark_list, walk_list};
 use script_records::layout::Layout;
 
 // One list: its body's bytes, whether its records are short, and whether its branches reach.
-#[derive(Drop)]
+#[derive(Clone, Copy)]
 pub struct Step {
     pub bytes: u32,
     pub short: bool,

@@ -16,7 +16,7 @@ use script_records::part::Part;
 use tree::{list_at, node_at};
 
 // Strings in a row: their bytes, each with its zero byte, how many there are, and whether no other byte of them is zero.
-#[derive(Drop)]
+#[derive(Clone, Copy)]
 pub struct Text {
     pub bytes: usize,
     pub count: usize,
@@ -24,7 +24,7 @@ pub struct Text {
 }
 
 // The data bytes of an entry, and whether its strings have no zero byte.
-#[derive(Drop)]
+#[derive(Clone, Copy)]
 pub struct Data {
     pub bytes: usize,
     pub clear: bool,

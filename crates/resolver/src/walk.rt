@@ -12,7 +12,7 @@ use pcode::{ByteOffset, Label, Position};
 use script_records::layout::Layout;
 
 // What has been walked of a list: how many actions, their bytes, where the last one begins, and whether every record and body is short.
-#[derive(Drop)]
+#[derive(Clone, Copy)]
 pub struct Walk {
     pub actions: u32,
     pub bytes: u32,

@@ -18,12 +18,12 @@ use Rattle.rows.specs.declared.Loop as code
 
 -- the labels that Break and Continue jump to
 
-abbrev pub label_of_item : Target → Option ℕ
-label_of_item (To l) = some l.0
-label_of_item Nowhere = none
+abbrev pub label_of : Target → Option ℕ
+label_of (To l) = some l.0
+label_of Nowhere = none
 
 abbrev pub loop_of : code.Loop → Loop
-loop_of lp = record { break_label = label_of_item lp.exit; continue_label = label_of_item lp.next }
+loop_of lp = record { break_label = label_of lp.exit; continue_label = label_of lp.next }
 
 -- how many Cases there are
 abbrev pub one_case : meaning.Element → ℕ

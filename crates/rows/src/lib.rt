@@ -14,7 +14,7 @@ mod quiet;
 
 // Expressions for their values or for their effects; an object's fields; statements, those that are hoisted, and the others; the tests of a switch, and its
 // elements.
-#[derive(Drop)]
+#[derive(Clone, Copy)]
 pub enum Each {
     Expr,
     Discarded,
@@ -26,13 +26,13 @@ pub enum Each {
     Element,
 }
 
-#[derive(Drop)]
+#[derive(Clone, Copy)]
 pub enum Target {
     To(Label),
     Nowhere,
 }
 
-#[derive(Drop)]
+#[derive(Clone, Copy)]
 pub struct Loop {
     pub exit: Target,
     pub next: Target,

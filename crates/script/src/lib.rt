@@ -13,7 +13,7 @@ mod record_rules;
 mod rules;
 
 // Accepted, or the refusal: 1, 2, 3, and 4 for a file over the limit of bytes or of depth.
-#[derive(Drop)]
+#[derive(Clone, Copy)]
 pub enum Answer {
     Accepted,
     BrokenRule,

@@ -28,7 +28,7 @@ pub fn all_of(file: &[u8], l: Layout, p: Part, class: u32) -> bool
 }
 
 // How many subtrees a part has, where each size is at least 1 and no larger than what is left.
-#[derive(Drop)]
+#[derive(Clone, Copy)]
 pub enum Siblings {
     Broken,
     Count(usize),

@@ -1,14 +1,14 @@
 -- Laws of the subtrees of a part of the records.
-use Prim.Native.Nat.{ℕ, zero, suc, ◌+◌, ◌-◌, ◌≤◌, ◌<◌, min, max}
-use mathlib.Core.Path.{◌≡◌, refl, ap, ◌∙◌}
+use Prim.Native.Nat.{ℕ, zero, suc, ◌-◌, ◌≤◌, ◌<◌, min, max}
+use mathlib.Core.Path.{◌≡◌, refl, ◌∙◌}
 use mathlib.Core.List.{List}
 use native.Mathlib.Omega.{arith}
-use Rattle.hir.specs.Tree.{Forest, none, more}
+use Rattle.hir.specs.Tree.{none, more}
 use Rattle.script_records.specs.declared.layout.Row.{Row}
 use Rattle.script_records.specs.declared.part.Part.{Part}
 use Rattle.script_records.specs.declared.part.Tree.{Tree}
 use Rattle.script_records.specs.Parts.{trees_in, last_tree}
-use Rattle.script_records.specs.Layout.{Words, words_of, row_in, span_at, forest_in, forest}
+use Rattle.script_records.specs.Layout.{words_of, row_in, span_at, forest_in, forest}
 
 pub span_le : (rs : List Row) (e n : ℕ) → span_at rs e n ≤ n
 unfolding span_at

@@ -1,5 +1,5 @@
 -- Parts of the records: subtrees in a row, and the last of them.
-use Rattle.std.specs.Prelude.{ℕ, ◌-◌, List}
+use Rattle.std.specs.Prelude.{◌-◌, List}
 use Rattle.hir.specs.Tree.{Forest}
 use Rattle.script_records.specs.declared.layout.Row.{Row}
 use Rattle.script_records.specs.declared.part.Part.{Part}

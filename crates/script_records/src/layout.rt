@@ -3,7 +3,7 @@ ghost use Rattle.std.specs.Prelude.{◌≡◌, ◌&&◌, ◌+◌, ◌-◌, ◌<�
 ghost use Rattle.script_records.specs.Layout.{word_at, has_trailer, areas_touch, layout_of, end_at, start_at, string_at, rows_of, row_in, HasRow, no_row};
 
 // Byte positions of the first record and of the first end offset, and how many records and strings there are.
-#[derive(Drop)]
+#[derive(Clone, Copy)]
 pub struct Layout {
     pub records: usize,
     pub ends: usize,
@@ -12,7 +12,7 @@ pub struct Layout {
 }
 
 // A record: its five words.
-#[derive(Drop)]
+#[derive(Clone, Copy)]
 pub struct Row {
     pub kind: u32,
     pub a: u32,

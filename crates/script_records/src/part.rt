@@ -6,14 +6,14 @@ ghost use Rattle.script_records.specs.Parts.{last_tree};
 use crate::layout::{Layout, Row};
 
 // The n records that end before record `end`.
-#[derive(Drop)]
+#[derive(Clone, Copy)]
 pub struct Part {
     pub end: usize,
     pub n: usize,
 }
 
 // The last subtree of a part: its record, its children, and the subtrees before it.
-#[derive(Drop)]
+#[derive(Clone, Copy)]
 pub struct Tree {
     pub row: Row,
     pub children: Part,

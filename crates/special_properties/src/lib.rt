@@ -4,7 +4,7 @@ ghost use Rattle.std.specs.Prelude.{◌≡◌, ◌+◌, ◌≤◌, ◌<◌, ◌&
 ghost use Rattle.special_properties.specs.SpecialProperties.{names, to_ascii_lowercase, get_special_property, property_of, same_bytes, null, undefined};
 
 // What a name stands for: the property of a number, or none.
-#[derive(Drop)]
+#[derive(Clone, Copy)]
 pub enum Property {
     Number(u32),
     None,

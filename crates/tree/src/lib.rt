@@ -13,7 +13,7 @@ use script_records::layout::{Layout, known_row};
 use script_records::part::{Part, last_tree};
 
 // The last tree of a part: its record, the record's number, its children, and the trees before it. Of no tree the record is Absent.
-#[derive(Drop)]
+#[derive(Clone, Copy)]
 pub struct Node {
     pub root: Record,
     pub number: usize,
@@ -105,7 +105,7 @@ pub fn kind_at(file: &[u8], l: Layout, p: Part) -> u32
 }
 
 // What stands in a switch's list.
-#[derive(Drop)]
+#[derive(Clone, Copy)]
 pub enum Element {
     Case,
     Default,
@@ -146,7 +146,7 @@ pub fn element_at(file: &[u8], l: Layout, p: Part) -> Element
 
 // Of the trees in a row: how many there are, how many of them are Case or Default, how many Case, and how many of the labelled ones stand from the
 // last Default on (0 if there is no Default).
-#[derive(Drop)]
+#[derive(Clone, Copy)]
 pub struct Counts {
     pub trees: u32,
     pub labels: u32,

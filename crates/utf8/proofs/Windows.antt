@@ -10,7 +10,7 @@ use lib.Dec.{eqb, leb, ltb}
 use lib.ListN.{length, get_or, drop}
 use borrow.Author.Count.{below_none, below_more}
 use borrow.Author.Tests.{eqb-true, eqb-false, leb-true, leb-false, ltb-true, ltb-false, le-leb, lt-leb, lt-ltb, le-ltb, ne_eqb}
-use Rattle.utf8.specs.Utf8.{Range, ◌to◌, tail, in_range, next, completes}
+use Rattle.utf8.specs.Utf8.{Range, tail, in_range, next, completes}
 use Rattle.utf8.specs.Chars.{from, Ascii, second, is_first, owes, may_follow, Follows, last_start, Closed, Past}
 use Rattle.utf8.proofs.Forms.{by_test, more, second_tail, opened, starts}
 use Rattle.utf8.proofs.Reading.{byte, bounds}

@@ -1,6 +1,6 @@
 -- UTF-8 as RFC 3629, section 4, has it: UTF8-octets = *( UTF8-char ).
 use Rattle.std.specs.Prelude.{ℕ, Bool, true, false, cond, ◌&&◌, List, [], ◌∷◌, leb}
-use Rattle.std.proofs.Math.Option.{Option, none, some, Option·elim}
+use Rattle.std.proofs.Math.Option.{Option, none, some, Option-elim}
 
 -- the bytes from low to high, both among them
 pub record Range : Type 0 where
@@ -47,7 +47,7 @@ next (r ∷ owed) b = cond (in_range b r) (some owed) none
 unfoldable pub completes : List Range → List ℕ → Bool
 completes [] [] = true
 completes (r ∷ owed) [] = false
-completes owed (b ∷ s) = Option·elim (next owed b) false (λ rest. completes rest s)
+completes owed (b ∷ s) = Option-elim (next owed b) false (λ rest. completes rest s)
 
 unfoldable pub utf8 : List ℕ → Bool
 utf8 = completes []

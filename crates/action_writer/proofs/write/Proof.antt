@@ -1,7 +1,7 @@
 -- `write` meets its contract.
 use Rattle.action_writer.proofs.Top.{cleared_leaves}
 use Rattle.zeros.proofs.Clearing.{cleared}
-use Rattle.definition.specs.Compile.{lists_of_outcome, if_lowered}
+use Rattle.definition.specs.Compile.{lists_of, if_lowered}
 use Rattle.lowering.specs.Builder.{limits01}
 use borrow.Author.Rules.{rules}
 use Rattle.action_writer.proofs.write.Statement.{statement}
@@ -20,7 +20,7 @@ same_length : tie.Need-same-length
 same_length c = search rules
 
 returns : tie.Need-returns
-returns c = cleared_leaves (if_lowered (lists_of_outcome limits01 c.before.before.before.before.before.before.before.before.before.before.before.before.args.file.now)) c.before.before.before.before.before.before.before.before.before.before.before.before.args.output.now c.before.before.before.before.before.before.before.clear-bytes.ensures c.before.before.write-with-tables.ensures
+returns c = cleared_leaves (if_lowered (lists_of limits01 c.before.before.before.before.before.before.before.before.before.before.before.before.args.file.now)) c.before.before.before.before.before.before.before.before.before.before.before.before.args.output.now c.before.before.before.before.before.before.before.clear-bytes.ensures c.before.before.write-with-tables.ensures
 
 pub write_spec : {M : Type 1} → statement M
 write_spec =

@@ -1,0 +1,6 @@
+use Rattle.script_records.specs.Layout.{word_at}
+use Rattle.script_records.proofs.layout.word.Goals as goal
+
+pub returns : goal.returns
+unfolding word_at
+returns c = cc
