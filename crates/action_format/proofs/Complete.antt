@@ -21,7 +21,6 @@ use Rattle.action_format.proofs.Tests.{is_true, and_first, and_second, and_both,
 use Rattle.action_format.proofs.Bodies.{CodeOk, count, no_more, stops_at_End, code_law}
 use Rattle.action_format.proofs.Offsets.{same_sizes, same_short, sizes_fill, places_law}
 use Rattle.action_format.proofs.Numbers.{flat_nest}
-use Rattle.action_format.proofs.Resume.{enough}
 use Rattle.action_format.proofs.Rules.{every_code, fits_inside, code_ok, pool_small}
 
 -- what an answer of bytes says: no refusal applies

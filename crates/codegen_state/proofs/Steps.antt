@@ -8,7 +8,7 @@ use borrow.Author.Tests.{ne_eqb, eq-eqb}
 use Rattle.lowering.specs.Builder.{State, Result, ok, refused, bind, M, Step, ◌>>=◌, ◌>>◌, pure, done, stack_size}
 use Rattle.codegen_state.specs.declared.CodeBuilder.{CodeBuilder}
 use Rattle.codegen_state.specs.View.{state, Waiting, waiting, Held, holds, stopped, held, back, carry, after}
-use Rattle.codegen_state.specs.Does.{Fine, Named, Does}
+use Rattle.codegen_state.specs.Does.{Fine, Does}
 
 -- a builder that has refused holds the refusal, another one its state
 pub held_stopped : {A : Type 0} (F : List ℕ) (a : A) (b : CodeBuilder) (w : List ℕ) → (b.refused ≡ 0 → ⊥) → held F a b w ≡ stopped b.refused

@@ -1,8 +1,8 @@
 -- What holds of the words between steps, and what it means that code does a step.
-use Rattle.std.specs.Prelude.{ℕ, zero, suc, ◌+◌, ◌-◌, ◌*◌, ◌≤◌, ◌<◌, ◌≡◌, List, [], ◌∷◌, T, length, get_or, set}
+use Rattle.std.specs.Prelude.{ℕ, zero, suc, ◌+◌, ◌-◌, ◌≤◌, ◌<◌, ◌≡◌, List, [], ◌∷◌, T, length, get_or}
 use Rattle.pcode.specs.Pcode.{Header, Action, Item}
-use Rattle.lowering.specs.Builder.{M, Step}
-use Rattle.list_slice.specs.Entry.{Piece, Entry, entry, entry_of, piece_of}
+use Rattle.lowering.specs.Builder.{M}
+use Rattle.list_slice.specs.Entry.{Piece, entry, entry_of, piece_of}
 use Rattle.list_slice.specs.Words.{entry_at}
 use Rattle.list_slice.specs.Items.{added}
 use Rattle.list_slice.specs.File.{in_file, names_string}

@@ -1,10 +1,10 @@
 -- The state of the definition that a CodeBuilder and the words of the list slice stand for, and what waits behind it.
-use Rattle.std.specs.Prelude.{ℕ, ◌+◌, ◌-◌, ◌*◌, List, [], ◌∷◌, map, Bool, cond, ◌&&◌, eqb, length, take, drop}
-use Rattle.pcode.specs.Pcode.{Value, Header, Action, Item}
+use Rattle.std.specs.Prelude.{ℕ, ◌+◌, ◌-◌, ◌*◌, List, [], map, Bool, cond, ◌&&◌, eqb, length, take, drop}
+use Rattle.pcode.specs.Pcode.{Value, Header, Item}
 use Rattle.pcode.specs.declared.PushValue.{PushValue}
 use Rattle.pcode.specs.declared.PushValue.TheVariants as pushing
 use Rattle.decode.specs.Numbers.{unsigned}
-use Rattle.lowering.specs.Builder.{limits01, Builder, State, Result, ok, refused, M, Step, close}
+use Rattle.lowering.specs.Builder.{limits01, State, Result, ok, refused, M, close}
 use Rattle.list_slice.specs.Entry.{Pushed, Piece, Entry, piece_of}
 use Rattle.list_slice.specs.Entry as entry
 use Rattle.list_slice.specs.Words.{run, cut}

@@ -1,19 +1,17 @@
 -- The decoded record (`hir.rs`) of a record's words, by document 01's numbers. Of words that keep the rules nothing is lost; of others a bool is
 -- whether it is not 0, and a number too large for its type is cut to it.
-use Rattle.std.specs.Prelude.{ℕ, suc, ◌+◌, ◌-◌, ◌/◌, ◌%◌, ◌^◌, List, [], ◌∷◌, Bool, not, cond, ltb, eqb, ℤ, pos, negsuc, get_or}
+use Rattle.std.specs.Prelude.{ℕ, ◌-◌, ◌/◌, ◌%◌, ◌^◌, List, [], ◌∷◌, Bool, not, cond, ltb, eqb, ℤ, pos, negsuc, get_or}
 use Rattle.hir.specs.declared.Affix.{Affix}
 use Rattle.hir.specs.declared.Affix.TheVariants.{Postfix, Prefix}
 use Rattle.hir.specs.declared.UnaryOperator.{UnaryOperator}
 use Rattle.hir.specs.declared.UnaryOperator.TheVariants as unary
 use Rattle.hir.specs.declared.BinaryOperator.{BinaryOperator}
 use Rattle.hir.specs.declared.BinaryOperator.TheVariants as binary
-use Rattle.hir.specs.declared.SimpleKind.{SimpleKind}
 use Rattle.hir.specs.declared.SimpleKind.TheVariants as simple
 use Rattle.hir.specs.declared.ConstantKind.{ConstantKind}
 use Rattle.hir.specs.declared.ConstantKind.TheVariants as constant
 use Rattle.hir.specs.declared.ExprKind.{ExprKind}
 use Rattle.hir.specs.declared.ExprKind.TheVariants as expr
-use Rattle.hir.specs.declared.EnumeratorTarget.{EnumeratorTarget}
 use Rattle.hir.specs.declared.EnumeratorTarget.TheVariants as target
 use Rattle.hir.specs.declared.ForCondition.{ForCondition}
 use Rattle.hir.specs.declared.ForCondition.TheVariants as loop

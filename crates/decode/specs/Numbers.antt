@@ -12,7 +12,6 @@ use Rattle.hir.specs.declared.ConstantKind.{ConstantKind}
 use Rattle.hir.specs.declared.ConstantKind.TheVariants as constant
 use Rattle.hir.specs.declared.ExprKind.{ExprKind}
 use Rattle.hir.specs.declared.ExprKind.TheVariants as expr
-use Rattle.hir.specs.declared.EnumeratorTarget.{EnumeratorTarget}
 use Rattle.hir.specs.declared.EnumeratorTarget.TheVariants as target
 use Rattle.hir.specs.declared.ForCondition.{ForCondition}
 use Rattle.hir.specs.declared.ForCondition.TheVariants as loop

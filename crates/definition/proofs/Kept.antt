@@ -11,14 +11,14 @@ use Rattle.lowering.proofs.Theorems.Facts.{All, Closed}
 use Rattle.lowering.proofs.Theorems.{top_first, branches_land}
 use Rattle.action_format.specs.Rules.{OfLowering}
 use Rattle.definition.specs.Outcome.{by_place, byte_limits}
-use Rattle.definition.specs.Compile.{statements_of, lists_of_outcome}
+use Rattle.definition.specs.Compile.{statements_of, lists_of}
 use Rattle.definition.proofs.Lowered.{of_lowering}
 use Rattle.definition.proofs.Ranges.{statements_in_lem}
 use Rattle.definition.proofs.Ways.{Compiled}
 
 module _ (lim : Limits) (some_action : 1 ≤ lim.actions) (file : List ℕ) where
   -- the lists of an accepted file
-  pub kept_lists : Bytes file → check_of file ≡ 0 → (ls : List (List Item)) → lists_of_outcome lim file ≡ lowering.lists ls → OfLowering (byte_limits lim) (by_place ls)
+  pub kept_lists : Bytes file → check_of file ≡ 0 → (ls : List (List Item)) → lists_of lim file ≡ lowering.lists ls → OfLowering (byte_limits lim) (by_place ls)
   kept_lists bytes c ls l =
       let x = top_first lim some_action (statements_of file) ls l in
       subst (λ (ls : List (List Item)). OfLowering (byte_limits lim) (by_place ls)) (sym x.2)

@@ -21,7 +21,7 @@ use Rattle.action_format.specs.ByList.{list_of, action_short, action_near}
 use Rattle.action_format.proofs.Tests.{and_both, never, some_of}
 use Rattle.action_format.proofs.Refusals.{near_by_actions, short_by_actions}
 use Rattle.definition.specs.Outcome.{refused, by_place}
-use Rattle.definition.specs.Compile.{lists_of_outcome, compile_with}
+use Rattle.definition.specs.Compile.{lists_of, compile_with}
 use Rattle.definition.specs.Refusals as conditions
 use Rattle.definition.specs.Refusals.{NotWritten, too_much_data, too_far, no_room, BrokenAt, data_or_body, offset}
 use Rattle.definition.proofs.Kept.{kept_lists}
@@ -97,7 +97,7 @@ broken l g room n s (no_room p q r t) = absurd (omega arith)
 
 module _ (lim : Limits) (some_action : 1 ≤ lim.actions) (file : List ℕ) (bytes : Bytes file) (list_words room : ℕ) where
   pub broken_record : (n : ℕ) → 9 ≤ n → n ≤ 11 → compile_with lim file list_words room ≡ refused n →
-      (ls : List (List Item)) × (lists_of_outcome lim file ≡ lowering.lists ls) × (k : ℕ) × (i : ℕ) × (a : Action) ×
+      (ls : List (List Item)) × (lists_of lim file ≡ lowering.lists ls) × (k : ℕ) × (i : ℕ) × (a : Action) ×
       (get_elem? (list_of (by_place ls) k) i ≡ some a) × BrokenAt (by_place ls) k i a n
   broken_record n j k e =
       let x = (writing_exactly lim file list_words room some_action n j (omega arith)).0 e in

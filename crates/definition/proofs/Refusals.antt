@@ -29,7 +29,7 @@ use Rattle.action_format.proofs.Sound.{exactly_read, no_list}
 use Rattle.list_slice.specs.Words.{slice_length}
 use Rattle.definition.specs.Outcome.{refused, Reading, read, by_place, byte_limits, Outcome, compiled, number_of}
 use Rattle.definition.specs.Outcome as outcome
-use Rattle.definition.specs.Compile.{statements_of, lists_of_outcome, compile_with}
+use Rattle.definition.specs.Compile.{statements_of, lists_of, compile_with}
 use Rattle.definition.specs.Read.{read_with}
 use Rattle.definition.specs.Refusals.{NotAccepted, too_long, rule_broken, not_utf8, unsupported, too_deep, NotWritten, zero_byte, too_much_data, too_far, no_room, RefusedFor, list_slice, script_file, in_lowering, in_writing}
 use Rattle.definition.proofs.Ways.{Way, way, outcome_of, short_slice, not_accepted, not_lowered, not_written, ReadWay, read_way, reading_of, not_found, found}
@@ -140,7 +140,7 @@ module _ (lim : Limits) (file : List ℕ) (list_words room : ℕ) where
   writing_number (no_room p q r s) = (omega arith, omega arith)
 
   module _ (some_action : 1 ≤ lim.actions) where
-    lowering_number : {n : ℕ} → lists_of_outcome lim file ≡ lowering.refusal n → (5 ≤ n) × (n ≤ 8)
+    lowering_number : {n : ℕ} → lists_of lim file ≡ lowering.refusal n → (5 ≤ n) × (n ≤ 8)
     lowering_number {n} l = go (refusal_number lim some_action (statements_of file) n l)
       where
         go : (n ≡ 5) ⊎ ((n ≡ 6) ⊎ ((n ≡ 7) ⊎ (n ≡ 8))) → (5 ≤ n) × (n ≤ 8)
@@ -168,20 +168,20 @@ module _ (lim : Limits) (file : List ℕ) (list_words room : ℕ) where
         go n k (in_writing s c l h) = absurd (omega (arith, (writing_number h).0))
 
     pub lowering_exactly : (n : ℕ) → 5 ≤ n → n ≤ 8 → (compile_with lim file list_words room ≡ refused n) ↔
-        ((slice_length lim ≤ list_words) × (check_of file ≡ 0) × (lists_of_outcome lim file ≡ lowering.refusal n))
+        ((slice_length lim ≤ list_words) × (check_of file ≡ 0) × (lists_of lim file ≡ lowering.refusal n))
     lowering_exactly n j k = (λ e. go n j k ((refused_exactly n).0 e), λ h. (refused_exactly n).1 (in_lowering h.0 h.1 h.2))
       where
-        go : (n : ℕ) → 5 ≤ n → n ≤ 8 → For n → (slice_length lim ≤ list_words) × (check_of file ≡ 0) × (lists_of_outcome lim file ≡ lowering.refusal n)
+        go : (n : ℕ) → 5 ≤ n → n ≤ 8 → For n → (slice_length lim ≤ list_words) × (check_of file ≡ 0) × (lists_of lim file ≡ lowering.refusal n)
         go n j k (list_slice h) = absurd (omega arith)
         go n j k (script_file s h) = absurd (omega (arith, file_number h))
         go n j k (in_lowering s c l) = (s, c, l)
         go n j k (in_writing s c l h) = absurd (omega (arith, (writing_number h).0))
 
     pub writing_exactly : (n : ℕ) → 9 ≤ n → n ≤ 12 → (compile_with lim file list_words room ≡ refused n) ↔
-        ((slice_length lim ≤ list_words) × (check_of file ≡ 0) × (ls : List (List Item)) × (lists_of_outcome lim file ≡ lowering.lists ls) × NotWritten (by_place ls) room n)
+        ((slice_length lim ≤ list_words) × (check_of file ≡ 0) × (ls : List (List Item)) × (lists_of lim file ≡ lowering.lists ls) × NotWritten (by_place ls) room n)
     writing_exactly n j k = (λ e. go n j k ((refused_exactly n).0 e), λ h. (refused_exactly n).1 (in_writing h.0 h.1 h.3 h.4))
       where
-        go : (n : ℕ) → 9 ≤ n → n ≤ 12 → For n → (slice_length lim ≤ list_words) × (check_of file ≡ 0) × (ls : List (List Item)) × (lists_of_outcome lim file ≡ lowering.lists ls) × NotWritten (by_place ls) room n
+        go : (n : ℕ) → 9 ≤ n → n ≤ 12 → For n → (slice_length lim ≤ list_words) × (check_of file ≡ 0) × (ls : List (List Item)) × (lists_of lim file ≡ lowering.lists ls) × NotWritten (by_place ls) room n
         go n j k (list_slice h) = absurd (omega arith)
         go n j k (script_file s h) = absurd (omega (arith, file_number h))
         go n j k (in_lowering s c l) = absurd (omega (arith, (lowering_number l).1))

@@ -24,7 +24,7 @@ use Rattle.action_format.specs.Encode as action_format
 use Rattle.action_format.specs.Encode.{encode}
 use Rattle.definition.specs.Outcome.{compiled, refused, read, by_place, number_of, read_number_of, read_length_of}
 use Rattle.definition.specs.Outcome as outcome
-use Rattle.definition.specs.Compile.{statements_of, lists_of_outcome, compile_of}
+use Rattle.definition.specs.Compile.{statements_of, lists_of, compile_of}
 use Rattle.definition.specs.Read.{read_of}
 use Rattle.definition.specs.Demand3.{Begins, AreSameLists, list_at, LandsAtItsMark}
 use Rattle.definition.specs.Refusals.{NotAccepted, NotWritten, RefusedFor, BrokenAt}
@@ -73,7 +73,7 @@ module _ (file : List ℕ) (list_words room : ℕ) where
 
   -- A file compiles exactly if no arrow of the call refuses it.
   pub compiled_exactly : (b : List ℕ) (ls : List (List Item)) → (compile_of file list_words room ≡ compiled b ls) ↔
-      ((16384 ≤ list_words) × (check_of file ≡ 0) × (lists_of_outcome limits01 file ≡ lowering.lists ls) × (encode (by_place ls) room ≡ action_format.bytes b))
+      ((16384 ≤ list_words) × (check_of file ≡ 0) × (lists_of limits01 file ≡ lowering.lists ls) × (encode (by_place ls) room ≡ action_format.bytes b))
   compiled_exactly = ways.compiled_exactly limits01 file list_words room
 
   -- Its number is then 0, and only then.
@@ -108,7 +108,7 @@ module _ (file : List ℕ) (list_words room : ℕ) where
 
   -- 5 to 8
   pub refused_5_to_8 : (n : ℕ) → 5 ≤ n → n ≤ 8 →
-      (compile_of file list_words room ≡ refused n) ↔ ((16384 ≤ list_words) × (check_of file ≡ 0) × (lists_of_outcome limits01 file ≡ lowering.refusal n))
+      (compile_of file list_words room ≡ refused n) ↔ ((16384 ≤ list_words) × (check_of file ≡ 0) × (lists_of limits01 file ≡ lowering.refusal n))
   refused_5_to_8 = refusals.lowering_exactly limits01 file list_words room some_action
 
   -- 5: only where a direct value is set, or a property deleted, called or constructed
@@ -132,12 +132,12 @@ module _ (file : List ℕ) (list_words room : ℕ) where
   -- 9, 10, 11, 12, each over all records
   pub refused_9_to_12 : (n : ℕ) → 9 ≤ n → n ≤ 12 →
       (compile_of file list_words room ≡ refused n) ↔
-      ((16384 ≤ list_words) × (check_of file ≡ 0) × (ls : List (List Item)) × (lists_of_outcome limits01 file ≡ lowering.lists ls) × NotWritten (by_place ls) room n)
+      ((16384 ≤ list_words) × (check_of file ≡ 0) × (ls : List (List Item)) × (lists_of limits01 file ≡ lowering.lists ls) × NotWritten (by_place ls) room n)
   refused_9_to_12 = refusals.writing_exactly limits01 file list_words room some_action
 
   -- 9, 10 and 11 speak of an action of a list: a string with a zero byte, too much data or too long a body, an offset out of range
   pub refused_9_to_11 : Bytes file → (n : ℕ) → 9 ≤ n → n ≤ 11 → compile_of file list_words room ≡ refused n →
-      (ls : List (List Item)) × (lists_of_outcome limits01 file ≡ lowering.lists ls) × (k : ℕ) × (i : ℕ) × (a : Action) ×
+      (ls : List (List Item)) × (lists_of limits01 file ≡ lowering.lists ls) × (k : ℕ) × (i : ℕ) × (a : Action) ×
       (get_elem? (list_of (by_place ls) k) i ≡ some a) × BrokenAt (by_place ls) k i a n
   refused_9_to_11 bytes = records.broken_record limits01 some_action file bytes list_words room
 

@@ -19,7 +19,7 @@ use Rattle.action_format.specs.Decode.{decode}
 use Rattle.list_slice.specs.Words.{slice_length}
 use Rattle.definition.specs.Outcome.{Outcome, compiled, refused, Reading, read, by_place, byte_limits}
 use Rattle.definition.specs.Outcome as outcome
-use Rattle.definition.specs.Compile.{lists_of_outcome, in_slice, if_accepted, lowered_with, if_lowered, written, compile_with}
+use Rattle.definition.specs.Compile.{lists_of, in_slice, if_accepted, lowered_with, if_lowered, written, compile_with}
 use Rattle.definition.specs.Read as reading
 use Rattle.definition.specs.Read.{read_with}
 
@@ -27,24 +27,24 @@ module _ (lim : Limits) (file : List ℕ) (list_words : ℕ) where
   pub data LoweredWay : lowering.Lists → Type 0 where
     short_slice : list_words < slice_length lim → LoweredWay (lowering.refusal 13)
     not_accepted : {n : ℕ} → slice_length lim ≤ list_words → check_of file ≡ suc n → LoweredWay (lowering.refusal (suc n))
-    lowered : {l : lowering.Lists} → slice_length lim ≤ list_words → check_of file ≡ 0 → lists_of_outcome lim file ≡ l → LoweredWay l
+    lowered : {l : lowering.Lists} → slice_length lim ≤ list_words → check_of file ≡ 0 → lists_of lim file ≡ l → LoweredWay l
 
   pub lowered_way : LoweredWay (lowered_with lim file list_words)
   unfolding lowered_with
   lowered_way = slice (ltb list_words (slice_length lim)) refl
     where
-      check : slice_length lim ≤ list_words → (n : ℕ) → check_of file ≡ n → LoweredWay (if_accepted n (lists_of_outcome lim file))
+      check : slice_length lim ≤ list_words → (n : ℕ) → check_of file ≡ n → LoweredWay (if_accepted n (lists_of lim file))
       check s zero e = lowered s e refl
       check s (suc n) e = not_accepted s e
 
-      slice : (b : Bool) → ltb list_words (slice_length lim) ≡ b → LoweredWay (in_slice b (if_accepted (check_of file) (lists_of_outcome lim file)))
+      slice : (b : Bool) → ltb list_words (slice_length lim) ≡ b → LoweredWay (in_slice b (if_accepted (check_of file) (lists_of lim file)))
       slice true e = short_slice (ltb-true list_words (slice_length lim) e)
       slice false e = check (ltb-false list_words (slice_length lim) e) (check_of file) refl
 
   pub record Lowered (ls : List (List Item)) : Type 0 where
     pub in_slice_lem : slice_length lim ≤ list_words
     pub accepted : check_of file ≡ 0
-    pub from : lists_of_outcome lim file ≡ lowering.lists ls
+    pub from : lists_of lim file ≡ lowering.lists ls
 
   pub lowered_by : (ls : List (List Item)) → lowered_with lim file list_words ≡ lowering.lists ls → Lowered ls
   lowered_by ls e = go (subst LoweredWay e lowered_way)
@@ -56,22 +56,22 @@ module _ (lim : Limits) (file : List ℕ) (list_words room : ℕ) where
   pub data Way : Outcome → Type 0 where
     short_slice : list_words < slice_length lim → Way (refused 13)
     not_accepted : {n : ℕ} → slice_length lim ≤ list_words → check_of file ≡ suc n → Way (refused (suc n))
-    not_lowered : {n : ℕ} → slice_length lim ≤ list_words → check_of file ≡ 0 → lists_of_outcome lim file ≡ lowering.refusal n → Way (refused n)
-    not_written : {n : ℕ} {ls : List (List Item)} → slice_length lim ≤ list_words → check_of file ≡ 0 → lists_of_outcome lim file ≡ lowering.lists ls →
+    not_lowered : {n : ℕ} → slice_length lim ≤ list_words → check_of file ≡ 0 → lists_of lim file ≡ lowering.refusal n → Way (refused n)
+    not_written : {n : ℕ} {ls : List (List Item)} → slice_length lim ≤ list_words → check_of file ≡ 0 → lists_of lim file ≡ lowering.lists ls →
         encode (by_place ls) room ≡ action_format.refused n → Way (refused n)
-    written_out : {b : List ℕ} {ls : List (List Item)} → slice_length lim ≤ list_words → check_of file ≡ 0 → lists_of_outcome lim file ≡ lowering.lists ls →
+    written_out : {b : List ℕ} {ls : List (List Item)} → slice_length lim ≤ list_words → check_of file ≡ 0 → lists_of lim file ≡ lowering.lists ls →
         encode (by_place ls) room ≡ action_format.bytes b → Way (compiled b ls)
 
   pub way : Way (compile_with lim file list_words room)
   unfolding compile_with
   way = go (lowered_with lim file list_words) (lowered_way lim file list_words)
     where
-      answer : slice_length lim ≤ list_words → check_of file ≡ 0 → (ls : List (List Item)) → lists_of_outcome lim file ≡ lowering.lists ls →
+      answer : slice_length lim ≤ list_words → check_of file ≡ 0 → (ls : List (List Item)) → lists_of lim file ≡ lowering.lists ls →
           (a : action_format.Answer) → encode (by_place ls) room ≡ a → Way (written ls a)
       answer s c ls l (action_format.bytes b) e = written_out s c l e
       answer s c ls l (action_format.refused n) e = not_written s c l e
 
-      lists : slice_length lim ≤ list_words → check_of file ≡ 0 → (l : lowering.Lists) → lists_of_outcome lim file ≡ l → Way (if_lowered l room)
+      lists : slice_length lim ≤ list_words → check_of file ≡ 0 → (l : lowering.Lists) → lists_of lim file ≡ l → Way (if_lowered l room)
       lists s c (lowering.refusal n) e = not_lowered s c e
       lists s c (lowering.lists ls) e = answer s c ls e (encode (by_place ls) room) refl
 
@@ -92,7 +92,7 @@ module _ (lim : Limits) (file : List ℕ) (list_words room : ℕ) where
   pub record Compiled (b : List ℕ) (ls : List (List Item)) : Type 0 where
     pub in_slice_lem : slice_length lim ≤ list_words
     pub accepted : check_of file ≡ 0
-    pub lowered : lists_of_outcome lim file ≡ lowering.lists ls
+    pub lowered : lists_of lim file ≡ lowering.lists ls
     pub encoded : encode (by_place ls) room ≡ action_format.bytes b
 
   pub compiled_by : (b : List ℕ) (ls : List (List Item)) → compile_with lim file list_words room ≡ compiled b ls → Compiled b ls
@@ -102,7 +102,7 @@ module _ (lim : Limits) (file : List ℕ) (list_words room : ℕ) where
       go (written_out s c l q) = record { in_slice_lem = s; accepted = c; lowered = l; encoded = q }
 
   pub compiled_exactly : (b : List ℕ) (ls : List (List Item)) → (compile_with lim file list_words room ≡ compiled b ls) ↔
-      ((slice_length lim ≤ list_words) × (check_of file ≡ 0) × (lists_of_outcome lim file ≡ lowering.lists ls) × (encode (by_place ls) room ≡ action_format.bytes b))
+      ((slice_length lim ≤ list_words) × (check_of file ≡ 0) × (lists_of lim file ≡ lowering.lists ls) × (encode (by_place ls) room ≡ action_format.bytes b))
   compiled_exactly b ls = (
     λ e. let c = compiled_by b ls e in (c.in_slice_lem, c.accepted, c.lowered, c.encoded),
     λ h. outcome_of (written_out h.0 h.1 h.2 h.3),

@@ -19,8 +19,8 @@ abbrev pub statements_of : List ℕ → Forest Rec
 statements_of file = list 0 (script_of file)
 
 -- the lists of a script file, or refusal 5, 6, 7 or 8
-abbrev pub lists_of_outcome : Limits → List ℕ → lowering.Lists
-lists_of_outcome lim file = script_to_actions lim (statements_of file)
+abbrev pub lists_of : Limits → List ℕ → lowering.Lists
+lists_of lim file = script_to_actions lim (statements_of file)
 
 -- 13 if the list slice is too short
 abbrev pub in_slice : (short : Bool) → lowering.Lists → lowering.Lists
@@ -37,7 +37,7 @@ unfoldable pub lowered_with : Limits → (file : List ℕ) → (list_words : ℕ
 lowered_with lim file list_words =
     in_slice (ltb list_words (slice_length lim))
     (if_accepted (check_of file)
-    (lists_of_outcome lim file))
+    (lists_of lim file))
 
 -- the bytes of lists, or refusal 9, 10, 11 or 12
 abbrev pub written : List (List Item) → action_format.Answer → Outcome

@@ -15,7 +15,7 @@ use Rattle.action_format.specs.Encode.{short}
 use Rattle.action_format.specs.ByList.{action_short, action_near}
 use Rattle.list_slice.specs.Words.{slice_length}
 use Rattle.definition.specs.Outcome.{by_place}
-use Rattle.definition.specs.Compile.{lists_of_outcome}
+use Rattle.definition.specs.Compile.{lists_of}
 
 -- 4 (bytes), 1, 2, 3, 4 (depth): the maker of the script file
 pub data NotAccepted (file : List ℕ) : ℕ → Type 0 where
@@ -38,8 +38,8 @@ pub data NotWritten (l : Lists) (room : ℕ) : ℕ → Type 0 where
 pub data RefusedFor (lim : Limits) (file : List ℕ) (list_words room : ℕ) : ℕ → Type 0 where
   list_slice : list_words < slice_length lim → RefusedFor lim file list_words room 13
   script_file : {n : ℕ} → slice_length lim ≤ list_words → NotAccepted file n → RefusedFor lim file list_words room n
-  in_lowering : {n : ℕ} → slice_length lim ≤ list_words → check_of file ≡ 0 → lists_of_outcome lim file ≡ lowering.refusal n → RefusedFor lim file list_words room n
-  in_writing : {n : ℕ} {ls : List (List Item)} → slice_length lim ≤ list_words → check_of file ≡ 0 → lists_of_outcome lim file ≡ lowering.lists ls →
+  in_lowering : {n : ℕ} → slice_length lim ≤ list_words → check_of file ≡ 0 → lists_of lim file ≡ lowering.refusal n → RefusedFor lim file list_words room n
+  in_writing : {n : ℕ} {ls : List (List Item)} → slice_length lim ≤ list_words → check_of file ≡ 0 → lists_of lim file ≡ lowering.lists ls →
       NotWritten (by_place ls) room n → RefusedFor lim file list_words room n
 
 -- the record of which 9, 10 or 11 speaks: action i of list k

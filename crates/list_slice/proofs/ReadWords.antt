@@ -21,7 +21,6 @@ use Rattle.action_format.proofs.Sound.{sound}
 use Rattle.list_slice.specs.Entry.{Entry, Piece, entries_of, piece_of}
 use Rattle.list_slice.specs.Words.{units, slice_length, joined, LastFilled, Fits, entries_in}
 use Rattle.list_slice.specs.Items.{References, push_pieces, action_pieces, items_of}
-use Rattle.list_slice.specs.Compiled.{numbered}
 use Rattle.list_slice.specs.Read.{Placed, PlacedLists, placed, values_from, chosen_at, placed_in_order, all_placed, pieces_read, entries_read, read_words, in_bytes, lists_read}
 use Rattle.list_slice.proofs.Parse.{recovered}
 use Rattle.list_slice.proofs.Pieces.{pieces_back}

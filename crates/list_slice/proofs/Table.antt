@@ -1,6 +1,5 @@
 -- Slices word by word: document 01's S3, a script with a function, a float and a property, and a list read from bytes.
 use Prim.Native.Nat.{ℕ, ◌-◌}
-use Prim.Native.String.{String}
 use mathlib.Core.Path.{◌≡◌, refl}
 use mathlib.Core.List.{List, [], ◌∷◌, ◌++◌, map}
 use mathlib.Core.Bool.{true, false}
@@ -15,7 +14,7 @@ use Rattle.decode.specs.Decode.{signed, binary_operators, unary_of, constant_of,
 use Rattle.script.specs.Rules.{tree_in}
 use Rattle.script.specs.Resolve.{resolved, script_of}
 use Rattle.script.specs.Write as file
-use Rattle.script.specs.Write.{answer_bytes, ends_from, rows_of_trees, record_words, write}
+use Rattle.script.specs.Write.{bytes_of, ends_from, rows_of_trees, record_words, write}
 use Rattle.special_properties.specs.Text.{bytes}
 use Rattle.special_properties.specs.SpecialProperties.{names, same, to_ascii_lowercase, first_from, get_special_property}
 use Rattle.lowering.specs.Builder.{limits01, ◌>>=◌, ◌>>◌, pure, refuse, create_label, stack_size, assume_stack_delta, action_with_stack_delta, mark_label, mark_default, push, add, define_function}
@@ -81,7 +80,7 @@ S3Lists = (act (Action.plain (Plain.ConstantPool (bytes "b" ∷ []))) ∷ Item.m
     single op.Not ∷ act (Action.branch Branching.If 1) ∷ act (Action.branch Branching.Jump 0) ∷ Item.mark 1 ∷ []) ∷ []
 
 S3Lowered : lowered S3File ≡ items S3Lists
-unfolding names same to_ascii_lowercase first_from get_special_property ◌>>=◌ ◌>>◌ pure refuse create_label stack_size assume_stack_delta action_with_stack_delta mark_label mark_default push add define_function meanings generate_actions script_to_actions word_at layout_of end_at string_at row_at rows_from rows_of span_at forest_in forest signed binary_operators unary_of constant_of condition_of statement_kinds expr_kinds plain_of record_of tree_in resolved script_of answer_bytes ends_from rows_of_trees record_words write map_forest count file.text
+unfolding names same to_ascii_lowercase first_from get_special_property ◌>>=◌ ◌>>◌ pure refuse create_label stack_size assume_stack_delta action_with_stack_delta mark_label mark_default push add define_function meanings generate_actions script_to_actions word_at layout_of end_at string_at row_at rows_from rows_of span_at forest_in forest signed binary_operators unary_of constant_of condition_of statement_kinds expr_kinds plain_of record_of tree_in resolved script_of bytes_of ends_from rows_of_trees record_words write map_forest count file.text
 S3Lowered = refl
 
 -- the last item first: mark 1, Jump, If, Not, GetVariable, the value, mark 0, the pool of one string
@@ -109,7 +108,7 @@ S3Words = refl
 
 -- the reference of the pool's one string is the file's string 0
 S3Holds : Holds limits01 S3File S3Lists S3Slice
-unfolding IsLe joined entries_of gathered items_of text_in names_string word_at layout_of end_at string_at row_at rows_from rows_of answer_bytes ends_from rows_of_trees record_words write count file.text labels_from
+unfolding IsLe joined entries_of gathered items_of text_in names_string word_at layout_of end_at string_at row_at rows_from rows_of bytes_of ends_from rows_of_trees record_words write count file.text labels_from
 S3Holds = slice_holds limits01 S3File S3Lists S3Pieces (0 ∷ []) 16384 (record {
   entries_fit = le_by_compare 8 4096 tt;
   lists_fit = le_by_compare 1 1024 tt;
@@ -134,7 +133,7 @@ function_lists =
     (act (Action.push (Value.Float 0x3FF8000000000000 ∷ [])) ∷ single op.Pop ∷ []) ∷ []
 
 function_lowered : lowered function_file ≡ items function_lists
-unfolding names same to_ascii_lowercase first_from get_special_property ◌>>=◌ ◌>>◌ pure refuse create_label stack_size assume_stack_delta action_with_stack_delta mark_label mark_default push add define_function meanings generate_actions script_to_actions word_at layout_of end_at string_at row_at rows_from rows_of span_at forest_in forest signed binary_operators unary_of constant_of condition_of statement_kinds expr_kinds plain_of record_of tree_in resolved script_of answer_bytes ends_from rows_of_trees record_words write map_forest count file.text
+unfolding names same to_ascii_lowercase first_from get_special_property ◌>>=◌ ◌>>◌ pure refuse create_label stack_size assume_stack_delta action_with_stack_delta mark_label mark_default push add define_function meanings generate_actions script_to_actions word_at layout_of end_at string_at row_at rows_from rows_of span_at forest_in forest signed binary_operators unary_of constant_of condition_of statement_kinds expr_kinds plain_of record_of tree_in resolved script_of bytes_of ends_from rows_of_trees record_words write map_forest count file.text
 function_lowered = refl
 
 -- list 1 finishes before the top list
@@ -162,7 +161,7 @@ unfolding area entry_words joined words.ends_from slice_words entries_of label_w
 function_words_lem = refl
 
 function_holds : Holds limits01 function_file function_lists function_slice
-unfolding IsLe joined entries_of gathered items_of text_in names_string rec_in record_in children_in params_of header_in names_function word_at layout_of end_at string_at row_at rows_from rows_of span_at forest_in forest signed binary_operators unary_of constant_of condition_of statement_kinds expr_kinds plain_of record_of resolved answer_bytes ends_from rows_of_trees record_words write map_forest count file.text labels_from
+unfolding IsLe joined entries_of gathered items_of text_in names_string rec_in record_in children_in params_of header_in names_function word_at layout_of end_at string_at row_at rows_from rows_of span_at forest_in forest signed binary_operators unary_of constant_of condition_of statement_kinds expr_kinds plain_of record_of resolved bytes_of ends_from rows_of_trees record_words write map_forest count file.text labels_from
 function_holds = slice_holds limits01 function_file function_lists function_pieces (0xFFFFFFFF ∷ []) 16384 (record {
   entries_fit = le_by_compare 8 4096 tt;
   lists_fit = le_by_compare 2 1024 tt;

@@ -4,7 +4,7 @@ use Rattle.std.proofs.Math.Option.{Option, none, some}
 use Rattle.hir.specs.Hir.{Str}
 use Rattle.pcode.specs.declared.Op.{Op}
 use Rattle.pcode.specs.declared.Op.TheVariants.{Pop}
-use Rattle.pcode.specs.Pcode.{Value, Plain, Header, Action, Item, Delta, up, down, moved, row_of, DefineFunction, DefineFunction2}
+use Rattle.pcode.specs.Pcode.{Value, Plain, Header, Action, Item, Delta, up, moved, row_of, DefineFunction, DefineFunction2}
 use Rattle.special_properties.specs.SpecialProperties.{same_bytes}
 use Rattle.lowering.specs.Strings.{find}
 

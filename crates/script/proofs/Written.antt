@@ -19,7 +19,7 @@ use Rattle.script_records.specs.Layout.{Words, words_of, word_at, layout_of, sta
 use Rattle.script.specs.Forms.{form_of, fits, kind_forms, unknown}
 use Rattle.script_records.specs.Layout.{has_trailer, areas_touch}
 use Rattle.script.specs.Rules.{all_below, ends_hold, parted, record_holds, root_holds, records_hold, rules_hold, tree_in, max_bytes}
-use Rattle.script.specs.Write.{text, ends_from, record_words, rows_of_trees, trailer, answer_bytes, write, Bytes, is_script, are_words, all_fit, WellFormed, word4, row_of, words_after}
+use Rattle.script.specs.Write.{text, ends_from, record_words, rows_of_trees, trailer, bytes_of, write, Bytes, is_script, are_words, all_fit, WellFormed, word4, row_of, words_after}
 use Rattle.script_records.proofs.Trees.{forest_none}
 use Rattle.script.proofs.RecordLaws.{parted_none}
 use Rattle.script_records.proofs.LayoutLaws.{rows_length}
@@ -178,13 +178,13 @@ bytes_word n (suc (suc zero)) = omega arith
 bytes_word n (suc (suc (suc zero))) = omega arith
 bytes_word n (suc (suc (suc (suc i)))) = omega arith
 
-bytes_words : (ns : List ℕ) → Bytes (answer_bytes ns)
-unfolding answer_bytes
+bytes_words : (ns : List ℕ) → Bytes (bytes_of ns)
+unfolding bytes_of
 bytes_words [] i = omega arith
-bytes_words (n ∷ ns) i = bytes_both (word4 n) (answer_bytes ns) (bytes_word n) (bytes_words ns) i
+bytes_words (n ∷ ns) i = bytes_both (word4 n) (bytes_of ns) (bytes_word n) (bytes_words ns) i
 
-bytes_append : (xs ys : List ℕ) → answer_bytes (xs ++ ys) ≡ answer_bytes xs ++ answer_bytes ys
-unfolding answer_bytes
+bytes_append : (xs ys : List ℕ) → bytes_of (xs ++ ys) ≡ bytes_of xs ++ bytes_of ys
+unfolding bytes_of
 bytes_append [] ys = refl
 bytes_append (x ∷ xs) ys = rw (bytes_append xs ys)
 
@@ -260,15 +260,15 @@ module _ (ss : List Str) (t : Forest Words) (wf : WellFormed ss t) (short : leng
   abbrev trailer_part : List ℕ
   trailer_part = trailer (count t) (length ss)
 
-  at_ends : At F E (answer_bytes ends_part ++ answer_bytes (records_part ++ trailer_part))
+  at_ends : At F E (bytes_of ends_part ++ bytes_of (records_part ++ trailer_part))
   unfolding write
   at_ends = record { front = text ss; back = []; whole = rw (append-nil, bytes_append ends_part (records_part ++ trailer_part)); place = refl }
 
-  at_records : At F (E + 4 * length ss) (answer_bytes records_part ++ answer_bytes trailer_part)
-  at_records = rw (bytes_length, ends_length, bytes_append records_part trailer_part) at (at_right (answer_bytes ends_part) (answer_bytes (records_part ++ trailer_part)) at_ends)
+  at_records : At F (E + 4 * length ss) (bytes_of records_part ++ bytes_of trailer_part)
+  at_records = rw (bytes_length, ends_length, bytes_append records_part trailer_part) at (at_right (bytes_of ends_part) (bytes_of (records_part ++ trailer_part)) at_ends)
 
-  at_trailer : At F (E + 4 * length ss + 4 * (5 * count t)) (answer_bytes trailer_part)
-  at_trailer = rw (bytes_length, record_length, rows_count) at (at_right (answer_bytes records_part) (answer_bytes trailer_part) at_records)
+  at_trailer : At F (E + 4 * length ss + 4 * (5 * count t)) (bytes_of trailer_part)
+  at_trailer = rw (bytes_length, record_length, rows_count) at (at_right (bytes_of records_part) (bytes_of trailer_part) at_records)
 
   ends_words : words_from F E (length ss) ≡ ends_part
   ends_words = rw (ends_length 0 ss) at (words_at F ends_part E (at_left _ _ at_ends) (small_ends ss 0 (omega (arith, total))))
@@ -293,7 +293,7 @@ module _ (ss : List Str) (t : Forest Words) (wf : WellFormed ss t) (short : leng
   tabled =
       let e : E + 4 * 0 ≡ E = omega arith in
       let z : 0 + length ss ≡ length ss = omega arith in
-      record { start = refl; bytes = record { front = []; back = answer_bytes (words_after ss t); whole = refl; place = refl }; ends = rw e ends_words; inside = rw z (omega (arith, total)) }
+      record { start = refl; bytes = record { front = []; back = bytes_of (words_after ss t); whole = refl; place = refl }; ends = rw e ends_words; inside = rw z (omega (arith, total)) }
 
   made_rows : rows_of F made ≡ rows_of_trees t
   unfolding rows_of
@@ -326,7 +326,7 @@ module _ (ss : List Str) (t : Forest Words) (wf : WellFormed ss t) (short : leng
 
 pub bytes_written : (ss : List Str) (t : Forest Words) → WellFormed ss t → Bytes (write ss t)
 unfolding write
-bytes_written ss t wf = bytes_both (text ss) (answer_bytes (words_after ss t)) wf.strings (bytes_words (words_after ss t))
+bytes_written ss t wf = bytes_both (text ss) (bytes_of (words_after ss t)) wf.strings (bytes_words (words_after ss t))
 
 -- what a file holds
 abbrev pub strings_in : List ℕ → List Str

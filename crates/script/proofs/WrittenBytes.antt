@@ -16,7 +16,7 @@ use Rattle.script_records.specs.declared.layout.Row.{Row}
 use Rattle.script_records.specs.Layout.{word_at, end_at, start_at, string_at, strings_from, row_at, rows_from, strings_of, trailer_at, record_distance, end_distance, record_count, string_count, edition, layout_of}
 use Rattle.script_records.specs.Layout.{has_trailer, areas_touch}
 use Rattle.script.specs.Rules.{}
-use Rattle.script.specs.Write.{word4, answer_bytes, text, ends_from, record_words, Bytes, trailer}
+use Rattle.script.specs.Write.{word4, bytes_of, text, ends_from, record_words, Bytes, trailer}
 use Rattle.script.proofs.WrittenRows.{At, at_left, at_right, first, second}
 
 -- from byte position p on, n words
@@ -85,8 +85,8 @@ module _ (F : List ℕ) (bytes : Bytes F) where
       ∙ ap (λ (r : List ℕ). r ++ drop (p + 4) F)
       (sym (digits (get_or F p 0) (get_or F (p + 1) 0) (get_or F (p + 2) 0) (get_or F (p + 3) 0) (bytes p) (bytes (p + 1)) (bytes (p + 2)) (bytes (p + 3))))
 
-  pub drop_words : (n p : ℕ) → length F ≡ p + 4 * n → drop p F ≡ answer_bytes (words_from F p n)
-  unfolding answer_bytes words_from
+  pub drop_words : (n p : ℕ) → length F ≡ p + 4 * n → drop p F ≡ bytes_of (words_from F p n)
+  unfolding bytes_of words_from
   drop_words zero p h = drop_of_length-le F {i = p} (omega arith)
   drop_words (suc n) p h = drop_four p (omega arith) ∙ rw (drop_words n (p + 4) (omega arith))
 
@@ -100,8 +100,8 @@ unfolding Small
 small_append [] ys h k = k
 small_append (x ∷ xs) ys h k = (h.0, small_append xs ys h.1 k)
 
-pub bytes_length : (ns : List ℕ) → length (answer_bytes ns) ≡ 4 * length ns
-unfolding answer_bytes
+pub bytes_length : (ns : List ℕ) → length (bytes_of ns) ≡ 4 * length ns
+unfolding bytes_of
 bytes_length [] = refl
 bytes_length (n ∷ ns) = rw (bytes_length ns) (omega arith)
 
@@ -114,10 +114,10 @@ module _ (F : List ℕ) where
       let r : List ℕ = word4 n ++ h.back in
       rw (h.whole, ← h.place, get_or-append_seam, get_or-append-add f r 1 0, get_or-append-add f r 2 0, get_or-append-add f r 3 0) (digits_sum n k)
 
-  pub words_at : (ns : List ℕ) (p : ℕ) → At F p (answer_bytes ns) → Small ns → words_from F p (length ns) ≡ ns
-  unfolding answer_bytes words_from Small
+  pub words_at : (ns : List ℕ) (p : ℕ) → At F p (bytes_of ns) → Small ns → words_from F p (length ns) ≡ ns
+  unfolding bytes_of words_from Small
   words_at [] p h k = refl
-  words_at (n ∷ ns) p h k = rw (word_at_lem p n (at_left (word4 n) (answer_bytes ns) h) k.0, words_at ns (p + 4) (at_right (word4 n) (answer_bytes ns) h) k.1)
+  words_at (n ∷ ns) p h k = rw (word_at_lem p n (at_left (word4 n) (bytes_of ns) h) k.0, words_at ns (p + 4) (at_right (word4 n) (bytes_of ns) h) k.1)
 
   -- five words a record
   pub record_words_lem : (n p : ℕ) → p + 20 * n ≤ length F → record_words (rows_from F p n) ≡ words_from F p (5 * n)

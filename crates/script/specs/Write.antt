@@ -10,9 +10,9 @@ use Rattle.script.specs.Forms.{statement, is_list, fits}
 abbrev pub word4 : ℕ → List ℕ
 word4 n = n % 256 ∷ n / 256 % 256 ∷ n / 65536 % 256 ∷ n / 16777216 % 256 ∷ []
 
-unfoldable pub answer_bytes : List ℕ → List ℕ
-answer_bytes [] = []
-answer_bytes (n ∷ ns) = word4 n ++ answer_bytes ns
+unfoldable pub bytes_of : List ℕ → List ℕ
+bytes_of [] = []
+bytes_of (n ∷ ns) = word4 n ++ bytes_of ns
 
 -- string bytes end to end
 unfoldable pub text : List Str → List ℕ
@@ -46,7 +46,7 @@ abbrev pub words_after : List Str → Forest Words → List ℕ
 words_after ss t = ends_from 0 ss ++ (record_words (rows_of_trees t) ++ trailer (count t) (length ss))
 
 unfoldable pub write : List Str → Forest Words → List ℕ
-write ss t = text ss ++ answer_bytes (words_after ss t)
+write ss t = text ss ++ bytes_of (words_after ss t)
 
 -- every byte is below 256; past the end get_or gives 0
 abbrev pub Bytes : List ℕ → Type 0

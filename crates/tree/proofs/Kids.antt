@@ -1,14 +1,12 @@
 -- The kids of a part, counted from the last.
 use Prim.Native.Nat.{ℕ, suc, ◌+◌, ◌-◌, ◌≤◌, ◌<◌}
-use mathlib.Core.Path.{◌≡◌, refl, sym, ap, ◌∙◌}
+use mathlib.Core.Path.{◌≡◌, refl, ◌∙◌}
 use mathlib.Core.List.{List}
 use native.Mathlib.Omega.{arith}
 use Rattle.script_records.specs.declared.layout.Layout.{Layout}
 use Rattle.script_records.specs.declared.part.Part.{Part}
-use Rattle.lowering.specs.Meaning.{Meaning, kid}
-use Rattle.lowering.proofs.Laws.{kid_law}
-use Rattle.tree.specs.Trees.{trees, node_of}
-use Rattle.tree.specs.Within.{Within, IsNode, IsKid, IsList, kid_at, list_at, meanings_at}
+use Rattle.tree.specs.Trees.{node_of}
+use Rattle.tree.specs.Within.{Within, IsKid, IsList, kid_at, list_at}
 use Rattle.tree.proofs.Nodes.{is_node}
 use Rattle.tree.proofs.Meanings.{kid_next, list_zero, list_next}
 

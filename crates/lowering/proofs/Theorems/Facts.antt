@@ -1,5 +1,5 @@
 -- What the theorems say of a list, of a state and of a tree.
-use Prim.Native.Nat.{ℕ, zero, suc, ◌+◌, ◌^◌, ◌<◌, ◌≤◌}
+use Prim.Native.Nat.{ℕ, suc, ◌+◌, ◌^◌, ◌<◌, ◌≤◌}
 use mathlib.Core.Path.{◌≡◌}
 use mathlib.Core.Logic.{◌⊎◌}
 use mathlib.Core.List.{List, [], ◌∷◌, ◌++◌, Memᴰ}
@@ -19,7 +19,6 @@ use Rattle.lowering.specs.Builder.{State, Limits}
 use Rattle.lowering.specs.Access.{Access, Variable, Object, Direct, SpecialProperty}
 use Rattle.lowering.specs.Operators.{trivial-assign, assign, plan}
 use Rattle.lowering.specs.Meaning.{Shape, constant, field, named-function, other, shape_of, integer, literal, nth, list, width, Element, case, default, statement, element}
-use Rattle.lowering.specs.Statement.{pool}
 
 abbrev pub All : {A : Type 0} → (A → Type 0) → List A → Type 0
 All Q [] = Unit

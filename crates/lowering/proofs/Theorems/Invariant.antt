@@ -4,14 +4,12 @@ use mathlib.Core.Path.{◌≡◌}
 use mathlib.Core.Logic.{◌⊎◌}
 use mathlib.Core.List.{List, [], ◌∷◌, Memᴰ}
 use mathlib.Core.Option.{none, some}
-use mathlib.Core.Bool.{not}
-use lib.Dec.{T}
 use lib.ListN.{length, get_or}
 use Rattle.hir.specs.Hir.{Str}
 use Rattle.pcode.specs.Pcode.{Item}
 use Rattle.lowering.specs.Builder.{Limits, M, State, Result, ok, refused}
 use Rattle.lowering.specs.Statement.{pool}
-use Rattle.lowering.proofs.Theorems.Facts.{All, branches, counted, count, Closed, LabelsBelow, is_action, pushed_by, sum, actions_in, values_in, function_list, At, ItemOk, tag_of, Full}
+use Rattle.lowering.proofs.Theorems.Facts.{All, branches, count, Closed, LabelsBelow, is_action, pushed_by, sum, actions_in, values_in, function_list, At, ItemOk, tag_of, Full}
 
 abbrev pub Each : List ℕ → (ℕ → Type 0) → Type 0
 Each F Q = (l : ℕ) → Memᴰ l F → Q l

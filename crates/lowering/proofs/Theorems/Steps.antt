@@ -13,11 +13,10 @@ use lib.Dec.{ltb, leb, eqb, T, eqb_refl, lit<, lit≤}
 use lib.ListN.{length, get_or, set, length-append, length-set, get_or-append, get_or-eq_default}
 use lib.Seq.{get_or-set_same, get_or-set_other, get_or-append_seam}
 use Rattle.hir.specs.Hir.{Str}
-use Rattle.pcode.specs.Pcode.{Value, String, Constant, Header, Action, Item, Plain, Branching, Delta, moved}
+use Rattle.pcode.specs.Pcode.{Value, Header, Action, Item, Plain, Branching, Delta, moved}
 use Rattle.special_properties.specs.SpecialProperties.{same_bytes}
 use Rattle.lowering.specs.Strings.{find}
 use Rattle.lowering.specs.Builder.{Limits, M, Step, State, Result, ok, refused, bind, allow, ◌>>=◌, ◌>>◌, pure, refuse, with_items, with_labels, with_constants, create_label, stack_size, assume_stack_delta, action_with_stack_delta, mark_or, mark_label, mark_default, push, push_joined, join, ends_in_push, add, add_new, add_found, joins, potential_length, in_new_list, defined, close, define_function}
-use Rattle.lowering.specs.Statement.{pool}
 use Rattle.lowering.proofs.Theorems.Facts.{All, label_of_item, branches, counted, count, Closed, LabelsBelow, is_action, pushed_by, sum, function_list, At, here, there, ValueOk, HeaderOk, PlainOk, ItemOk, Full}
 use Rattle.lowering.proofs.Theorems.Invariant.{Each, Origin, after, Runs, begin, begin_top, plain, function, Ranged, next, Waiting, Marked, Free, Context, Pooled, Covered, Grows, After, Post, Good, ValueIs, Yields}
 
