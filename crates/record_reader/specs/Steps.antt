@@ -4,7 +4,6 @@ use Rattle.std.proofs.Math.Option.{Option, none, some}
 use Rattle.utf8.specs.Utf8.{utf8}
 use Rattle.pcode.specs.Pcode.{Param}
 use Rattle.action_format.specs.Bytes.{Bytes}
-use Rattle.action_format.specs.Lists.{all}
 use Rattle.action_format.specs.Readers.{given, read_byte, word_reader, read_string}
 use Rattle.action_format.specs.Decode.{Record}
 use Rattle.record_reader.specs.declared.Head.{Head}

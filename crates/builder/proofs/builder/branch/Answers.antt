@@ -1,0 +1,7 @@
+use Rattle.pcode.specs.Pcode.{Branching}
+use Rattle.builder.proofs.Actions.{branch_says}
+use borrow.Author.Rules.{rules}
+use Rattle.builder.proofs.builder.branch.Goals as goal
+
+pub returns : goal.returns
+returns c = λ F. c.emit.ensures F _ _ (branch_says F Branching.If _) c.minus-size.ensures

@@ -1,0 +1,7 @@
+use native.Mathlib.Omega.{arith}
+use Rattle.builder.proofs.Actions.{store_says}
+use borrow.Author.Rules.{rules}
+use Rattle.builder.proofs.builder.store_register.Goals as goal
+
+pub returns : goal.returns
+returns c = λ F. c.emit.ensures F _ _ (store_says F c.args.register) (omega arith)

@@ -1,0 +1,10 @@
+use borrow.Author.Rules.{rules}
+use Prim.Native.Nat.{◌-◌}
+use Rattle.builder.proofs.Pops.{PopsInv, pops_holds, pops_again, pops_done}
+use Rattle.builder.proofs.builder.truncate_stack.Given as goal
+
+abbrev pub invariant-loop-i : goal.invariant-loop-i
+invariant-loop-i l = PopsInv l.initial.list l.n l.initial.cur l.list l.cur l.i
+
+abbrev pub decreases-loop-i : goal.decreases-loop-i
+decreases-loop-i l = l.n - l.i

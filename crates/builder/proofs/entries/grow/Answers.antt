@@ -1,0 +1,7 @@
+use native.Mathlib.Omega.{arith}
+use Rattle.builder.proofs.Leaves.{marks_le}
+use borrow.Author.Rules.{rules}
+use Rattle.builder.proofs.entries.grow.Goals as goal
+
+pub overflow_add-r-3 : goal.overflow_add-r-3
+overflow_add-r-3 c = omega (arith, marks_le c.requires.fine, c.requires.fine.labels)

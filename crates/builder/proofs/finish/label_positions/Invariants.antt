@@ -1,0 +1,11 @@
+use mathlib.Core.List.{[]}
+use native.Mathlib.Omega.{arith}
+use mathlib.Core.Path.{refl}
+use Rattle.builder.proofs.FinishWords.{PlacesInv, places_holds, places_again}
+use Rattle.builder.proofs.finish.label_positions.Given as goal
+
+abbrev pub invariant-loop-i : goal.invariant-loop-i
+invariant-loop-i l = PlacesInv l.initial.list l.from l.end l.list l.i l.position l.before
+
+abbrev pub decreases-loop-i : goal.decreases-loop-i
+decreases-loop-i l = l.i
