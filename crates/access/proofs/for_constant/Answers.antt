@@ -6,10 +6,10 @@ use borrow.Author.Rules.{rules}
 use Rattle.access.proofs.for_constant.Goals as goal
 
 pub returns-in-String : goal.returns-in-String
-returns-in-String c = λ h t. string c.args.file.now c.in-String.is h t c.push_string-b1.ensures
+returns-in-String c = λ h t. string c.args.file.now c.in-String.is h t (search rules)
 
 pub returns-in-Identifier : goal.returns-in-Identifier
-returns-in-Identifier c = λ h t. identifier c.args.file.now c.in-Identifier.is h t c.for_identifier.ensures
+returns-in-Identifier c = λ h t. identifier c.args.file.now c.in-Identifier.is h t (search rules)
 
 pub returns-in-Float : goal.returns-in-Float
 returns-in-Float c = λ h t. rw c.in-Float.is (c.direct.ensures c.args.file.now tt)
