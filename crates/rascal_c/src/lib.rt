@@ -1,10 +1,12 @@
+#![tactic(auto)]
+
 // The two calls for programs in other languages. A slice is a pointer and a length; the word that they return is the length, or 2^64 - 1 less the refusal's
 // number.
 ghost use Rattle.std.specs.Prelude.{◌≡◌, length};
 ghost use Rattle.rascal.specs.Calls.{compiled_word, read_word, CompilesTo, ReadsTo};
 
-use crate::{Compiled, compile, read};
 use action_reader::Answer;
+use rascal::{Compiled, compile, read};
 
 fn compiled_word(answer: Compiled) -> u64
     ensures { result ≡ compiled_word answer }
