@@ -1,4 +1,3 @@
-use borrow.Author.Rules.{rules}
 use Rattle.access.proofs.call_new.Goals as goal
 
 pub returns-in-Variable : goal.returns-in-Variable

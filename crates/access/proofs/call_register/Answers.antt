@@ -1,6 +1,5 @@
 use mathlib.Core.List.{[]}
 use Rattle.access.proofs.Accesses.{calls}
-use borrow.Author.Rules.{rules}
 use Rattle.access.proofs.call_register.Goals as goal
 
 pub push-b2-requires : goal.push-b2-requires

@@ -1,4 +1,3 @@
-use borrow.Author.Rules.{rules}
 use Rattle.access.proofs.delete.Goals as goal
 
 pub returns-in-Variable : goal.returns-in-Variable

@@ -1,6 +1,5 @@
 use mathlib.Core.Path.{sym, ◌∙◌}
 use Rattle.access.proofs.Accesses.{null_name, undefined_name, other_name}
-use borrow.Author.Rules.{rules}
 use Rattle.access.proofs.for_name.Goals as goal
 
 pub returns-then-is_null : goal.returns-then-is_null

@@ -1,5 +1,4 @@
 use Rattle.codegen_state.proofs.Steps.{idle}
-use borrow.Author.Rules.{rules}
 use Rattle.access.proofs.get_value.Goals as goal
 
 pub returns-in-Variable : goal.returns-in-Variable

@@ -1,6 +1,5 @@
 use mathlib.Core.List.{[]}
 use Rattle.access.proofs.Accesses.{sets}
-use borrow.Author.Rules.{rules}
 use Rattle.access.proofs.set_and_push.Goals as goal
 
 pub action-b2-requires : goal.action-b2-requires

@@ -3,7 +3,6 @@ use Rattle.lowering.specs.Builder.{action}
 use Rattle.lowering.specs.Access.{store_register}
 use Rattle.pcode.specs.declared.Op.TheVariants.{Pop}
 use Rattle.access.proofs.Chains.{row}
-use borrow.Author.Rules.{rules}
 use Rattle.access.proofs.set_value.Goals as goal
 
 pub action-requires-in-Register : goal.action-requires-in-Register

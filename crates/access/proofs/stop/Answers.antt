@@ -1,6 +1,5 @@
 use Rattle.codegen_state.proofs.Steps.{stays}
 use Rattle.access.proofs.Accesses.{refused_now}
-use borrow.Author.Rules.{rules}
 use Rattle.access.proofs.stop.Goals as goal
 
 pub returns-then-b-ne0 : goal.returns-then-b-ne0

@@ -1,6 +1,5 @@
 use native.Mathlib.Omega.{arith}
 use lib.ListN.{length-set}
-use borrow.Author.Rules.{rules}
 use Rattle.constants.proofs.add.Goals as goal
 
 pub bounds-list-n-2 : goal.bounds-list-n-2

@@ -1,7 +1,6 @@
-use Prim.Native.Nat.{◌-◌}
 use native.Mathlib.Omega.{arith}
 use borrow.Author.Rules.{rules}
-use Rattle.constants.proofs.HashLaws.{Hashed, hash_short, hashed_none, hashed_more, hashed_all}
+use Rattle.constants.proofs.HashLaws.{hash_short, hashed_none, hashed_more, hashed_all}
 use Rattle.constants.proofs.bucket.Goals as goal
 
 pub returns-then-n-lt4 : goal.returns-then-n-lt4

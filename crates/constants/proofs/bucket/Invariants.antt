@@ -1,7 +1,5 @@
 use Prim.Native.Nat.{◌-◌}
-use native.Mathlib.Omega.{arith}
-use borrow.Author.Rules.{rules}
-use Rattle.constants.proofs.HashLaws.{Hashed, hash_short, hashed_none, hashed_more, hashed_all}
+use Rattle.constants.proofs.HashLaws.{Hashed}
 use Rattle.constants.proofs.bucket.Given as goal
 
 abbrev pub invariant-loop-k : goal.invariant-loop-k

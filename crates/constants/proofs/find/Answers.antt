@@ -1,7 +1,6 @@
 use mathlib.Core.Path.{refl}
 use native.Mathlib.Omega.{arith}
-use borrow.Author.Rules.{rules}
-use Rattle.constants.proofs.SearchLaws.{Searching, search_starts, search_goes_on, search_falls, search_ends}
+use Rattle.constants.proofs.SearchLaws.{search_starts, search_goes_on, search_falls, search_ends}
 use Rattle.constants.proofs.find.Goals as goal
 
 pub bounds-list-head : goal.bounds-list-head

@@ -1,7 +1,4 @@
-use mathlib.Core.Path.{refl}
-use native.Mathlib.Omega.{arith}
-use borrow.Author.Rules.{rules}
-use Rattle.constants.proofs.SearchLaws.{Searching, search_starts, search_goes_on, search_falls, search_ends}
+use Rattle.constants.proofs.SearchLaws.{Searching}
 use Rattle.constants.proofs.find.Given as goal
 
 abbrev pub invariant-loop-next : goal.invariant-loop-next

@@ -1,4 +1,3 @@
-use borrow.Author.Rules.{rules}
 use Rattle.constants.proofs.nearer.Goals as goal
 
 pub returns-then-agrees : goal.returns-then-agrees

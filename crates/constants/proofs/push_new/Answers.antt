@@ -13,7 +13,7 @@ pub add-requires : goal.add-requires
 add-requires c =
     let k : length c.text-joining.result.now < 65535 - c.args.b.total = omega arith in
     let room = add_room c.requires.fine c.requires.refused_value (c.push-r.ensures c.args.file.now (search rules)) c.if-r-ne0.false k c.requires.h_value.1 in
-    record { in_bounds = room.0; constants_bound = room.1.0; size_bound = omega (arith, room.1.1.0); h_bound = room.1.1.1; }
+    record { in_bounds = room.0; constants_bound = room.1.0; size_bound = omega (arith, room.1.1.0); h_bound = room.1.1.1 }
 
 pub returns : goal.returns
 returns c = λ t e. push_added c.args.file.now c.args.s c.requires.fine c.requires.refused_value c.text-joining.ensures e (search rules) (c.push-r.ensures c.args.file.now (search rules)) c.if-r-ne0.false c.requires.h_value t c.add.ensures

@@ -1,5 +1,4 @@
 use native.Mathlib.Omega.{arith}
-use borrow.Author.Rules.{rules}
 use Rattle.constants.proofs.HashLaws.{rounds_long, rounds_whole}
 use Rattle.constants.proofs.rounds.Goals as goal
 

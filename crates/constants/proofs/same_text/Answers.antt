@@ -1,4 +1,3 @@
-use borrow.Author.Rules.{rules}
 use Rattle.constants.proofs.SearchLaws.{same_reference}
 use Rattle.constants.proofs.same_text.Goals as goal
 
