@@ -23,10 +23,10 @@ pub finish-requires : goal.finish-requires
 finish-requires c = ready c.requires
 
 pub returns-then-bytes-at-eq0 : goal.returns-then-bytes-at-eq0
-returns-then-bytes-at-eq0 c = finish_step c.requires c.if-at-s-2.true c.if-bytes-at-eq0.true c.if-s-ne0.false c.finish.ensures c.finish.auto.list
+returns-then-bytes-at-eq0 c = finish_step c.requires (omega arith) c.if-bytes-at-eq0.true c.if-s-ne0.false c.finish.ensures c.finish.auto.list
 
 pub next_record-requires-2 : goal.next_record-requires-2
 next_record-requires-2 c = record {
   stands = c.requires;
-  inside = record { body = λ n e. n c.if-s-ne0.false; top = λ z e q. elim c.if-at-s-2.branch [ then-at-s-2+else-bytes-at-eq0 u ↦ u.if-bytes-at-eq0.false q | else-at-s-2 u ↦ u.if-at-s-2.false e ] };
+  inside = record { body = λ n e. n c.if-s-ne0.false; top = λ z e q. elim c.if-at-s-2.branch [ then-at-s-2+else-bytes-at-eq0 u ↦ u.if-bytes-at-eq0.false q | else-at-s-2 u ↦ omega (arith, u.if-at-s-2.false) ] };
 }
