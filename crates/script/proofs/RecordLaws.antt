@@ -1,23 +1,23 @@
 -- The rules of one record: what each step of the walks over its children gives.
-use Prim.Native.Nat.{ℕ, zero, suc, ◌+◌, ◌-◌, ◌*◌, ◌/◌, ◌%◌, ◌≤◌, ◌<◌}
+use Prim.Native.Nat.{ℕ, zero, suc, ◌+◌, ◌-◌, ◌/◌, ◌%◌, ◌≤◌, ◌<◌}
 use mathlib.Core.Path.{◌≡◌, refl, sym, ap, ◌∙◌}
-use mathlib.Core.List.{List, [], ◌∷◌, reverse, reverse-reverse}
+use mathlib.Core.List.{List, [], ◌∷◌, reverse-reverse}
 use mathlib.Core.Bool.{Bool, true, false, cond, ◌&&◌, ◌||◌}
-use mathlib.Core.Option.{Option, some, none}
-use lib.Dec.{eqb, ltb, leb, eqb-suc-zero}
+use mathlib.Core.Option.{some, none}
+use lib.Dec.{eqb, leb, eqb-suc-zero}
 use native.Mathlib.Nat.{zero-add}
 use native.Mathlib.Omega.{arith}
-use borrow.Author.Tests.{eq-eqb, ne_eqb, lt-ltb, le-ltb, le-leb, lt-leb}
-use Rattle.hir.specs.Tree.{Forest, more}
+use borrow.Author.Tests.{eq-eqb, ne_eqb, le-leb, lt-leb}
+use Rattle.hir.specs.Tree.{Forest}
 use Rattle.script_records.specs.declared.layout.Row.{Row}
 use Rattle.script_records.specs.declared.part.Part.{Part}
 use Rattle.script_records.specs.declared.part.Tree.{Tree}
 use Rattle.script.specs.declared.record_rules.Siblings.{Siblings}
 use Rattle.script.specs.declared.record_rules.Siblings.TheVariants.{Broken, Count}
-use Rattle.script_records.specs.Layout.{Words, words_of, row_in, span_at, forest, children_of}
+use Rattle.script_records.specs.Layout.{Words, words_of, row_in, span_at, forest}
 use Rattle.script_records.specs.Parts.{trees_in, last_tree}
-use Rattle.script.specs.Forms.{Class, Sort, one, optional, list, constraints, expr, is_class, is_list, is_sort, all_of, matches, trees, fits, form_of, has_form, form, counted, unsupported, unknown}
-use Rattle.script.specs.FormCode.{class_from, sort_from, sorts_in, sorts_from, form_from, scalar_from, scalars_fit}
+use Rattle.script.specs.Forms.{Class, constraints, is_class, is_list, is_sort, all_of, matches, trees, fits, form_of}
+use Rattle.script.specs.FormCode.{class_from, sort_from, sorts_in, sorts_from, form_from, scalars_fit}
 use Rattle.script.specs.Rules.{parted_in, parted, record_holds}
 use Rattle.script.specs.Siblings.{siblings_of, count_of}
 use Rattle.script_records.proofs.Trees.{forest_none, forest_more, trees_none, tree_more, tree_less, span_le, span_pos}

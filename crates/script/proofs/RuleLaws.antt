@@ -1,21 +1,20 @@
 -- The rules of the whole file: what each step of the walks over records and strings gives.
-use Prim.Native.Nat.{ℕ, zero, suc, ◌+◌, ◌-◌, ◌*◌, ◌≤◌, ◌<◌, max}
+use Prim.Native.Nat.{ℕ, zero, suc, ◌+◌, ◌-◌, ◌≤◌, ◌<◌, max}
 use mathlib.Core.Path.{◌≡◌, refl, sym, ap, ◌∙◌}
-use mathlib.Core.List.{List, [], ◌∷◌}
-use mathlib.Core.Bool.{Bool, true, false, cond, not, ◌&&◌, ◌||◌, and-false}
-use lib.Dec.{eqb, ltb, leb}
+use mathlib.Core.List.{List}
+use mathlib.Core.Bool.{Bool, true, false, ◌&&◌, and-false}
+use lib.Dec.{ltb}
 use lib.ListN.{length, get_or, set, replicate, length-set}
 use lib.Seq.{get_or-set_same, get_or-set_other}
-use native.Mathlib.Nat.{zero-add, add-suc}
+use native.Mathlib.Nat.{add-suc}
 use native.Mathlib.Numerals.{add-one, sub-one}
 use native.Mathlib.Omega.{arith}
-use borrow.Author.Tests.{ltb-true, ltb-false, eq-eqb, ne_eqb, lt-ltb, le-ltb, le-leb, lt-leb}
-use Rattle.hir.specs.Tree.{Forest, none, more, depth}
+use borrow.Author.Tests.{ltb-true, ltb-false, eq-eqb, ne_eqb, lt-ltb, le-ltb, le-leb}
+use Rattle.hir.specs.Tree.{depth}
 use Rattle.script_records.specs.declared.layout.Layout.{Layout}
 use Rattle.script_records.specs.declared.layout.Row.{Row}
-use Rattle.script_records.specs.declared.part.Part.{Part}
 use Rattle.script_records.specs.declared.part.Tree.{Tree}
-use Rattle.script_records.specs.Layout.{has_trailer, areas_touch, words_of, row_in, span_at, forest, children_of, strings_from, strings_of, string_at, rows_of, layout_of}
+use Rattle.script_records.specs.Layout.{has_trailer, areas_touch, words_of, row_in, span_at, forest, strings_from, strings_of, string_at, rows_of, layout_of}
 use Rattle.script_records.specs.Parts.{trees_in, last_tree}
 use Rattle.script.specs.Forms.{statement, is_list}
 use Rattle.script.specs.Rules.{all_below, ends_hold, records_hold, rules_hold, check_of, max_depth, root_holds, all_utf8, all_supported, tree_in}

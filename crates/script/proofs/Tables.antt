@@ -9,7 +9,7 @@ use native.Mathlib.Omega.{arith}
 use borrow.Author.Tests.{eq-eqb, ne_eqb, lt-ltb, le-ltb}
 use Rattle.script_records.specs.declared.layout.Row.{Row}
 use Rattle.script_records.specs.Layout.{words_of}
-use Rattle.script.specs.Forms.{statement, expr, field, parameter, element, below, string, optional-string, limit, Form, unknown, kind_forms, constant_forms, unary_forms, enumerate_forms, classic_form, form_of, for_in_form}
+use Rattle.script.specs.Forms.{statement, expr, field, parameter, element, below, string, optional-string, limit, Form, unknown, kind_forms, constant_forms, unary_forms, enumerate_forms, form_of, for_in_form}
 use Rattle.script.specs.FormCode.{scalars_fit, class_from, scalar_from, form_from, sorts_from, sorts_in, sort_from}
 
 abbrev pub kinds : List ℕ

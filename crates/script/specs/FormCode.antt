@@ -1,5 +1,5 @@
 -- How the code's tables hold a form: a number whose digits are its scalars and its sorts.
-use Rattle.std.specs.Prelude.{ℕ, zero, suc, ◌+◌, ◌-◌, ◌*◌, ◌/◌, ◌%◌, ◌^◌, List, [], ◌∷◌, reverse, Bool, true, false, cond, ◌&&◌, eqb, ltb, get_or}
+use Rattle.std.specs.Prelude.{ℕ, zero, suc, ◌-◌, ◌/◌, ◌%◌, ◌^◌, List, [], ◌∷◌, reverse, Bool, cond, ◌&&◌, eqb, ltb, get_or}
 use Rattle.script_records.specs.declared.layout.Row.{Row}
 use Rattle.script.specs.Forms.{limit, Scalar, below, string, optional-string, Class, statement, expr, field, parameter, element, Sort, one, optional, list, constraints, Form, form, counted, unsupported, unknown}
 

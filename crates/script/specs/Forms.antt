@@ -1,5 +1,5 @@
 -- What a record of each kind holds (document 01, 'The script file'): its words, and its children, by tables in the order of `hir.rs`.
-use Rattle.std.specs.Prelude.{ℕ, ◌+◌, ◌-◌, ◌^◌, List, [], ◌∷◌, ◌++◌, reverse, Bool, true, false, cond, ◌&&◌, ◌||◌, ltb, leb, eqb, get_or, replicate}
+use Rattle.std.specs.Prelude.{ℕ, ◌+◌, ◌^◌, List, [], ◌∷◌, ◌++◌, reverse, Bool, true, false, cond, ◌&&◌, ◌||◌, ltb, leb, eqb, get_or, replicate}
 use Rattle.hir.specs.Tree.{Forest, none, more}
 use Rattle.script_records.specs.Layout.{Words}
 

@@ -16,7 +16,6 @@ use Rattle.hir.specs.declared.StatementKind.{StatementKind}
 use Rattle.hir.specs.declared.StatementKind.TheVariants as statement
 use Rattle.hir.specs.declared.Record.{Record}
 use Rattle.hir.specs.declared.Record.TheVariants as kind
-use Rattle.script_records.specs.declared.layout.Layout.{Layout}
 use Rattle.script_records.specs.Layout.{layout_of, string_at}
 use Rattle.script.specs.Rules.{tree_in}
 use Rattle.decode.specs.Decode.{record_of}

@@ -1,5 +1,5 @@
 -- The rules of the script file, and which of the refusals 4 (bytes), 1, 2, 3, 4 (depth) a file gets.
-use Rattle.std.specs.Prelude.{ℕ, zero, suc, ◌+◌, ◌-◌, ◌*◌, List, [], ◌∷◌, Bool, true, false, cond, not, ◌&&◌, ◌||◌, ltb, leb, eqb, length}
+use Rattle.std.specs.Prelude.{ℕ, zero, suc, ◌+◌, ◌-◌, List, [], ◌∷◌, Bool, true, cond, not, ◌&&◌, ltb, leb, eqb, length}
 use Rattle.hir.specs.Hir.{Str}
 use Rattle.hir.specs.Tree.{Forest, depth}
 use Rattle.utf8.specs.Utf8.{utf8}

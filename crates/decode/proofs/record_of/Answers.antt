@@ -1,4 +1,4 @@
--- `bytes_of_record` meets its contract.
+-- `record_of` meets its contract.
 use mathlib.Core.Path.{◌∙◌}
 use mir.Syntax.{w32}
 use mir.ValLaws.{to_z-of_z}

@@ -1,12 +1,8 @@
-use Prim.Native.Nat.{◌-◌, ◌≤◌, ◌<◌}
-use mathlib.Core.List.{[]}
 use native.Mathlib.Omega.{arith}
-use borrow.Author.Rules.{rules}
-use lib.ListN.{length, get_or}
-use Rattle.special_properties.specs.SpecialProperties.{names, to_ascii_lowercase}
+use Rattle.special_properties.specs.SpecialProperties.{to_ascii_lowercase}
 use Rattle.special_properties.proofs.Table.{names_count}
-use Rattle.special_properties.proofs.Same.{Agree, lengths_differ, agree_none, agree_more, agree_not, agree_all}
-use Rattle.special_properties.proofs.Search.{Passed, passed_none, passed_more, passed_found, passed_all}
+use Rattle.special_properties.proofs.Same.{lengths_differ, agree_none, agree_more, agree_not, agree_all}
+use Rattle.special_properties.proofs.Search.{passed_none, passed_more, passed_found, passed_all}
 use Rattle.special_properties.proofs.get_special_property.Goals as goal
 
 pub names-init : goal.names-init

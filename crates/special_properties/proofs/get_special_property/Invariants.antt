@@ -1,12 +1,11 @@
+-- The outer loop's invariant: none of the first i names agrees. The inner loop's: the name is as long as name i, and their first k letters agree.
+-- The measures are what is left of the names and of the letters.
 use Prim.Native.Nat.{◌-◌, ◌≤◌, ◌<◌}
 use mathlib.Core.List.{[]}
-use native.Mathlib.Omega.{arith}
-use borrow.Author.Rules.{rules}
 use lib.ListN.{length, get_or}
 use Rattle.special_properties.specs.SpecialProperties.{names, to_ascii_lowercase}
-use Rattle.special_properties.proofs.Table.{names_count}
-use Rattle.special_properties.proofs.Same.{Agree, lengths_differ, agree_none, agree_more, agree_not, agree_all}
-use Rattle.special_properties.proofs.Search.{Passed, passed_none, passed_more, passed_found, passed_all}
+use Rattle.special_properties.proofs.Same.{Agree}
+use Rattle.special_properties.proofs.Search.{Passed}
 use Rattle.special_properties.proofs.get_special_property.Given as goal
 
 abbrev pub invariant-loop-k : goal.invariant-loop-k

@@ -1,8 +1,6 @@
-use Prim.Native.Nat.{◌+◌, ◌-◌, ◌≤◌, ◌<◌}
-use mathlib.Core.Path.{◌≡◌}
-use native.Mathlib.Omega.{arith}
-use lib.ListN.{length}
-use Rattle.special_properties.proofs.Same.{Block, block_none, block_more, block_not}
+-- The loop's invariant: `same` says whether the first i bytes agree.
+use Prim.Native.Nat.{◌-◌, ◌≤◌}
+use Rattle.special_properties.proofs.Same.{Block}
 use Rattle.special_properties.proofs.same_block.Given as goal
 
 abbrev pub invariant-loop-i : goal.invariant-loop-i

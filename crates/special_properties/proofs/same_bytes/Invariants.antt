@@ -1,9 +1,6 @@
+-- The loop's invariant: the two are as long, and their first k bytes agree.
 use Prim.Native.Nat.{◌-◌}
-use mathlib.Core.Path.{sym}
-use native.Mathlib.Omega.{arith}
-use borrow.Author.Rules.{rules}
-use borrow.Author.Tests.{not-true, not-false}
-use Rattle.special_properties.proofs.Same.{Agree, lengths_differ, agree_none, agree_block, agree_not_block, agree_last}
+use Rattle.special_properties.proofs.Same.{Agree}
 use Rattle.special_properties.proofs.same_bytes.Given as goal
 
 abbrev pub invariant-loop-k : goal.invariant-loop-k

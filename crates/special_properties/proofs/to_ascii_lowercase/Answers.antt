@@ -1,5 +1,4 @@
 use native.Mathlib.Omega.{arith}
-use borrow.Author.Rules.{rules}
 use borrow.Author.Tests.{le-leb, lt-leb}
 use Rattle.special_properties.specs.SpecialProperties.{to_ascii_lowercase}
 use Rattle.special_properties.proofs.to_ascii_lowercase.Goals as goal

@@ -1,0 +1,17 @@
+use Prim.Native.Nat.{ℕ, ◌-◌}
+use mathlib.Core.Bool.{Bool}
+use mathlib.Core.List.{List}
+use Rattle.script_records.specs.declared.layout.Row.{Row}
+use Rattle.script_records.specs.Layout.{rows_of, row_in}
+use Rattle.script_records.specs.Layout.{supported}
+use Rattle.script.proofs.RuleLaws.{Upto}
+use Rattle.script.proofs.rules.kinds_supported.Given as goal
+
+abbrev pub test : List Row → ℕ → Bool
+test rs i = supported (row_in rs i).kind
+
+abbrev pub invariant-loop-i : goal.invariant-loop-i
+invariant-loop-i l = Upto (test (rows_of l.file l.l)) l.n l.i
+
+abbrev pub decreases-loop-i : goal.decreases-loop-i
+decreases-loop-i l = l.n - l.i
