@@ -1,6 +1,5 @@
 use native.Mathlib.Omega.{arith}
-use borrow.Author.Rules.{rules}
-use Rattle.resolver.proofs.Counting.{CountInv, count_start, count_again, count_found, count_none}
+use Rattle.resolver.proofs.Counting.{count_start, count_again, count_found, count_none}
 use Rattle.resolver.proofs.count_lists.Goals as goal
 
 pub loop-n-init : goal.loop-n-init

@@ -1,6 +1,4 @@
-use native.Mathlib.Omega.{arith}
-use borrow.Author.Rules.{rules}
-use Rattle.resolver.proofs.Counting.{CountInv, count_start, count_again, count_found, count_none}
+use Rattle.resolver.proofs.Counting.{CountInv}
 use Rattle.resolver.proofs.count_lists.Given as goal
 
 abbrev pub invariant-loop-n : goal.invariant-loop-n

@@ -1,5 +1,4 @@
 use mathlib.Core.Path.{refl}
-use borrow.Author.Rules.{rules}
 use Rattle.resolver.proofs.measure.Goals as goal
 
 pub measure_lists-requires : goal.measure_lists-requires

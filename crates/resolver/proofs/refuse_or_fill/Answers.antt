@@ -1,4 +1,3 @@
-use borrow.Author.Rules.{rules}
 use Rattle.resolver.proofs.Passing.{answer_zero, answer_passed}
 use Rattle.resolver.proofs.refuse_or_fill.Goals as goal
 

@@ -1,6 +1,5 @@
 use mathlib.Core.Path.{sym}
 use native.Mathlib.Omega.{arith}
-use borrow.Author.Rules.{rules}
 use Rattle.resolver.proofs.Walking.{no_body}
 use Rattle.resolver.proofs.branches.place_of.Goals as goal
 

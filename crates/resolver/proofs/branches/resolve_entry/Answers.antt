@@ -1,5 +1,4 @@
 use mathlib.Core.Path.{sym, ◌∙◌}
-use borrow.Author.Rules.{rules}
 use Rattle.list_slice.specs.Words.{entry_at}
 use Rattle.resolver.proofs.branches.resolve_entry.Goals as goal
 

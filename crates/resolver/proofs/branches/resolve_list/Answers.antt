@@ -1,6 +1,5 @@
 use native.Mathlib.Omega.{arith}
-use borrow.Author.Rules.{rules}
-use Rattle.resolver.proofs.Reaches.{ResolveInv, resolve_start, resolve_again, resolve_done}
+use Rattle.resolver.proofs.Reaches.{resolve_start, resolve_again, resolve_done}
 use Rattle.resolver.proofs.branches.resolve_list.Goals as goal
 
 pub loop-i-init : goal.loop-i-init

@@ -1,6 +1,4 @@
-use native.Mathlib.Omega.{arith}
-use borrow.Author.Rules.{rules}
-use Rattle.resolver.proofs.Reaches.{ResolveInv, resolve_start, resolve_again, resolve_done}
+use Rattle.resolver.proofs.Reaches.{ResolveInv}
 use Rattle.resolver.proofs.branches.resolve_list.Given as goal
 
 abbrev pub invariant-loop-i : goal.invariant-loop-i

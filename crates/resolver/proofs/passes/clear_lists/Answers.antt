@@ -1,6 +1,6 @@
-use Prim.Native.Nat.{◌+◌, ◌-◌}
+use Prim.Native.Nat.{◌+◌}
 use native.Mathlib.Omega.{arith}
-use Rattle.resolver.proofs.Passing.{ClearPass, clear_pass_start, clear_few, clear_standing, clear_pass_again}
+use Rattle.resolver.proofs.Passing.{clear_pass_start, clear_few, clear_standing, clear_pass_again}
 use Rattle.resolver.proofs.passes.clear_lists.Goals as goal
 
 pub loop-j-init : goal.loop-j-init

@@ -1,6 +1,5 @@
-use Prim.Native.Nat.{◌+◌, ◌-◌}
-use native.Mathlib.Omega.{arith}
-use Rattle.resolver.proofs.Passing.{ClearPass, clear_pass_start, clear_few, clear_standing, clear_pass_again}
+use Prim.Native.Nat.{◌-◌}
+use Rattle.resolver.proofs.Passing.{ClearPass}
 use Rattle.resolver.proofs.passes.clear_lists.Given as goal
 
 abbrev pub invariant-loop-j : goal.invariant-loop-j

@@ -1,8 +1,8 @@
 use borrow.Author.Tests.{not-true, not-false}
-use Prim.Native.Nat.{◌+◌, ◌-◌}
+use Prim.Native.Nat.{◌+◌}
 use mathlib.Core.Path.{refl}
 use native.Mathlib.Omega.{arith}
-use Rattle.resolver.proofs.Passing.{number_small, PassInv, pass_start, pass_few, pass_standing, pass_long, pass_again, pass_near, pass_far}
+use Rattle.resolver.proofs.Passing.{number_small, pass_start, pass_few, pass_standing, pass_long, pass_again, pass_near, pass_far}
 use Rattle.resolver.proofs.passes.measure_lists.Goals as goal
 
 pub loop-j-init : goal.loop-j-init

@@ -1,7 +1,5 @@
-use Prim.Native.Nat.{◌+◌, ◌-◌}
-use mathlib.Core.Path.{refl}
-use native.Mathlib.Omega.{arith}
-use Rattle.resolver.proofs.Passing.{number_small, PassInv, pass_start, pass_few, pass_standing, pass_long, pass_again, pass_near, pass_far}
+use Prim.Native.Nat.{◌-◌}
+use Rattle.resolver.proofs.Passing.{PassInv}
 use Rattle.resolver.proofs.passes.measure_lists.Given as goal
 
 abbrev pub invariant-loop-j : goal.invariant-loop-j

@@ -1,5 +1,4 @@
 use borrow.Author.Tests.{eq-eqb, ne_eqb}
-use borrow.Author.Rules.{rules}
 use Rattle.resolver.proofs.passes.number_at.Goals as goal
 
 pub returns-then-j-n : goal.returns-then-j-n

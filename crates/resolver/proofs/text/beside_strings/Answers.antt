@@ -1,5 +1,4 @@
 use borrow.Author.Tests.{le-leb, lt-leb}
-use borrow.Author.Rules.{rules}
 use Rattle.resolver.proofs.text.beside_strings.Goals as goal
 
 pub returns-then-registers-le1 : goal.returns-then-registers-le1

@@ -1,4 +1,3 @@
-use borrow.Author.Rules.{rules}
 use Rattle.resolver.proofs.Entries.{entry_operands, entry_done}
 use Rattle.resolver.proofs.text.entry_data.Goals as goal
 

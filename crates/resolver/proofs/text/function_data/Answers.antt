@@ -1,6 +1,5 @@
 use Prim.Native.Nat.{◌%◌}
 use native.Mathlib.Omega.{arith}
-use borrow.Author.Rules.{rules}
 use Rattle.resolver.proofs.Texts.{function_fits, function_kids, function_done}
 use Rattle.resolver.proofs.text.function_data.Goals as goal
 

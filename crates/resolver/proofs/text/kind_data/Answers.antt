@@ -1,5 +1,4 @@
 use mathlib.Core.Path.{◌∙◌}
-use borrow.Author.Rules.{rules}
 use Rattle.resolver.proofs.Entries.{kind_rest}
 use Rattle.resolver.proofs.text.kind_data.Goals as goal
 

@@ -1,5 +1,4 @@
 use borrow.Author.Tests.{lt-ltb, le-ltb}
-use borrow.Author.Rules.{rules}
 use Rattle.resolver.proofs.text.kind_of.Goals as goal
 
 pub returns-then-code-lt288 : goal.returns-then-code-lt288

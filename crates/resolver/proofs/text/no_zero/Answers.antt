@@ -1,8 +1,6 @@
-use Prim.Native.Nat.{◌-◌}
 use mathlib.Core.Path.{refl}
 use native.Mathlib.Omega.{arith}
-use lib.ListN.{length}
-use Rattle.resolver.proofs.Texts.{ZeroInv, zero_again, zero_found, zero_none}
+use Rattle.resolver.proofs.Texts.{zero_again, zero_found, zero_none}
 use Rattle.resolver.proofs.text.no_zero.Goals as goal
 
 pub loop-i-init : goal.loop-i-init

@@ -1,8 +1,6 @@
 use Prim.Native.Nat.{◌-◌}
-use mathlib.Core.Path.{refl}
-use native.Mathlib.Omega.{arith}
 use lib.ListN.{length}
-use Rattle.resolver.proofs.Texts.{ZeroInv, zero_again, zero_found, zero_none}
+use Rattle.resolver.proofs.Texts.{ZeroInv}
 use Rattle.resolver.proofs.text.no_zero.Given as goal
 
 abbrev pub invariant-loop-i : goal.invariant-loop-i

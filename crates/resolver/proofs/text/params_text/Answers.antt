@@ -1,5 +1,4 @@
-use borrow.Author.Rules.{rules}
-use Rattle.resolver.proofs.Texts.{ParamsInv, params_start, params_few, params_less, params_again, params_done}
+use Rattle.resolver.proofs.Texts.{params_start, params_few, params_less, params_again, params_done}
 use Rattle.resolver.proofs.text.params_text.Goals as goal
 
 pub loop-left-init : goal.loop-left-init

@@ -1,5 +1,4 @@
-use borrow.Author.Rules.{rules}
-use Rattle.resolver.proofs.Texts.{ParamsInv, params_start, params_few, params_less, params_again, params_done}
+use Rattle.resolver.proofs.Texts.{ParamsInv}
 use Rattle.resolver.proofs.text.params_text.Given as goal
 
 abbrev pub invariant-loop-left : goal.invariant-loop-left

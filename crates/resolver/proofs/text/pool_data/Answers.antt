@@ -1,5 +1,4 @@
 use native.Mathlib.Omega.{arith}
-use borrow.Author.Rules.{rules}
 use Rattle.resolver.proofs.Texts.{pool_small}
 use Rattle.resolver.proofs.text.pool_data.Goals as goal
 

@@ -1,5 +1,4 @@
-use borrow.Author.Rules.{rules}
-use Rattle.resolver.proofs.Texts.{PoolInv, pool_start, pool_few, pool_again, pool_done}
+use Rattle.resolver.proofs.Texts.{PoolInv}
 use Rattle.resolver.proofs.text.pool_text.Given as goal
 
 abbrev pub invariant-loop-i : goal.invariant-loop-i

@@ -1,5 +1,4 @@
 use native.Mathlib.Omega.{arith}
-use borrow.Author.Rules.{rules}
 use Rattle.resolver.proofs.Texts.{text_fits}
 use Rattle.resolver.proofs.text.string_data.Goals as goal
 

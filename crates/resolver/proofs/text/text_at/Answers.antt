@@ -1,4 +1,3 @@
-use borrow.Author.Rules.{rules}
 use Rattle.resolver.proofs.Texts.{text_none, text_string}
 use Rattle.resolver.proofs.text.text_at.Goals as goal
 

@@ -1,5 +1,4 @@
 use native.Mathlib.Omega.{arith}
-use borrow.Author.Rules.{rules}
 use Rattle.resolver.proofs.Texts.{text_few, text_more}
 use Rattle.resolver.proofs.text.with_text.Goals as goal
 

@@ -1,6 +1,5 @@
 use native.Mathlib.Omega.{arith}
 use borrow.Author.Tests.{eq-eqb, ne_eqb, le-leb, lt-leb, lt-ltb, le-ltb}
-use borrow.Author.Rules.{rules}
 use Rattle.resolver.proofs.Items.{frame_small}
 use Rattle.resolver.proofs.walk.add_entry.Goals as goal
 

@@ -2,7 +2,6 @@ use Prim.Native.Nat.{◌+◌, ◌*◌}
 use native.Mathlib.Omega.{arith}
 use lib.ListN.{get_or}
 use borrow.Author.Tests.{eq-eqb, ne_eqb}
-use borrow.Author.Rules.{rules}
 use Rattle.list_slice.specs.Words.{entry_at}
 use Rattle.resolver.proofs.Walking.{no_body}
 use Rattle.resolver.proofs.walk.body_of.Goals as goal

@@ -1,5 +1,5 @@
 use native.Mathlib.Omega.{arith}
-use Rattle.resolver.proofs.Walking.{ClearInv, clear_start, clear_known, clear_again, clear_done}
+use Rattle.resolver.proofs.Walking.{clear_start, clear_known, clear_again, clear_done}
 use Rattle.resolver.proofs.walk.clear_list.Goals as goal
 
 pub loop-i-init : goal.loop-i-init

@@ -1,5 +1,4 @@
-use native.Mathlib.Omega.{arith}
-use Rattle.resolver.proofs.Walking.{ClearInv, clear_start, clear_known, clear_again, clear_done}
+use Rattle.resolver.proofs.Walking.{ClearInv}
 use Rattle.resolver.proofs.walk.clear_list.Given as goal
 
 abbrev pub invariant-loop-i : goal.invariant-loop-i

@@ -1,5 +1,4 @@
 use borrow.Author.Tests.{eq-eqb, ne_eqb}
-use borrow.Author.Rules.{rules}
 use Rattle.list_slice.specs.Words.{entry_at}
 use Rattle.resolver.proofs.walk.mark_entry.Goals as goal
 

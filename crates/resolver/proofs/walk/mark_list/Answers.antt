@@ -1,6 +1,5 @@
 use native.Mathlib.Omega.{arith}
-use borrow.Author.Rules.{rules}
-use Rattle.resolver.proofs.Walking.{MarkInv, mark_start, mark_again, mark_done}
+use Rattle.resolver.proofs.Walking.{mark_start, mark_again, mark_done}
 use Rattle.resolver.proofs.walk.mark_list.Goals as goal
 
 pub loop-i-init : goal.loop-i-init

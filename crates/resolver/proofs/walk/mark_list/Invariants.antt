@@ -1,6 +1,4 @@
-use native.Mathlib.Omega.{arith}
-use borrow.Author.Rules.{rules}
-use Rattle.resolver.proofs.Walking.{MarkInv, mark_start, mark_again, mark_done}
+use Rattle.resolver.proofs.Walking.{MarkInv}
 use Rattle.resolver.proofs.walk.mark_list.Given as goal
 
 abbrev pub invariant-loop-i : goal.invariant-loop-i

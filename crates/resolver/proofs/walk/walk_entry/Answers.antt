@@ -1,5 +1,4 @@
 use native.Mathlib.Omega.{arith}
-use borrow.Author.Rules.{rules}
 use Rattle.resolver.proofs.Walking.{step_done}
 use Rattle.resolver.proofs.walk.walk_entry.Goals as goal
 

@@ -1,7 +1,6 @@
 use borrow.Author.Tests.{not-true, not-false}
 use native.Mathlib.Omega.{arith}
-use borrow.Author.Rules.{rules}
-use Rattle.resolver.proofs.Walking.{walk_long, WalkInv, walk_start, walk_room, walk_known, walk_stop, walk_again, walk_done}
+use Rattle.resolver.proofs.Walking.{walk_long, walk_start, walk_room, walk_known, walk_stop, walk_again, walk_done}
 use Rattle.resolver.proofs.walk.walk_list.Goals as goal
 
 pub loop-i-init : goal.loop-i-init

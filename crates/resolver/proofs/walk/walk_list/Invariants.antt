@@ -1,6 +1,4 @@
-use native.Mathlib.Omega.{arith}
-use borrow.Author.Rules.{rules}
-use Rattle.resolver.proofs.Walking.{walk_long, WalkInv, walk_start, walk_room, walk_known, walk_stop, walk_again, walk_done}
+use Rattle.resolver.proofs.Walking.{WalkInv}
 use Rattle.resolver.proofs.walk.walk_list.Given as goal
 
 abbrev pub invariant-loop-i : goal.invariant-loop-i
