@@ -6,4 +6,3 @@ returns-then-from_default-eq0 c = rw (c.in-Default.is, eq-eqb _ 0 c.if-from_defa
 
 pub returns-else-from_default-eq0 : goal.returns-else-from_default-eq0
 returns-else-from_default-eq0 c = rw (c.in-Default.is, ne_eqb _ 0 c.if-from_default-eq0.false)
-

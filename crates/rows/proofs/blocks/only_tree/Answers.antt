@@ -25,8 +25,8 @@ pub loop-left-preserved : goal.loop-left-preserved
 loop-left-preserved c =
     let k = rw c.rest_of-before.ensures at c.is_passed.ensures in
     elim c.if-not-is_passed.branch [
-      then-not-is_passed+else-found-ne0 w ↦ rw w.found-is (only_in _ _ _ _ c.loop-left.invariant c.loop-left-test.true c.rest_of-before.ensures w.if-found-ne0.false)
-    | else-not-is_passed w ↦ rw w.found-is (only_out _ _ _ _ c.loop-left.invariant c.loop-left-test.true c.rest_of-before.ensures (sym k ∙ w.if-not-is_passed.false))
+      | then-not-is_passed+else-found-ne0 w ↦ rw w.found-is (only_in _ _ _ _ c.loop-left.invariant c.loop-left-test.true c.rest_of-before.ensures w.if-found-ne0.false)
+      | else-not-is_passed w ↦ rw w.found-is (only_out _ _ _ _ c.loop-left.invariant c.loop-left-test.true c.rest_of-before.ensures (sym k ∙ w.if-not-is_passed.false))
     ]
 
 pub returns : goal.returns
