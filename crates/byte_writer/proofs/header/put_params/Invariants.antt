@@ -1,0 +1,9 @@
+use Rattle.byte_writer.proofs.ParamLoops.{Backward, backward_start, backward_done, backward_fits, backward_room, backward_next, params_less}
+use native.Mathlib.Omega.{arith}
+use Rattle.byte_writer.proofs.header.put_params.Given as goal
+
+abbrev pub invariant-loop-left : goal.invariant-loop-left
+invariant-loop-left l = Backward l.file l.l l.wide l.initial.left l.initial.output l.at l.end l.output l.next l.left
+
+abbrev pub decreases-loop-left : goal.decreases-loop-left
+decreases-loop-left l = l.left.n
