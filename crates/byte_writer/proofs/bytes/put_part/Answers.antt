@@ -1,8 +1,5 @@
-use Rattle.byte_writer.proofs.Loops.{Left, part_start, part_next, part_done}
-use Prim.Native.Nat.{◌≤◌, ◌-◌, ◌+◌}
+use Rattle.byte_writer.proofs.Loops.{part_start, part_next, part_done}
 use native.Mathlib.Omega.{arith}
-use borrow.Author.Rules.{rules}
-use lib.ListN.{length, drop}
 use Rattle.byte_writer.proofs.bytes.put_part.Goals as goal
 
 pub loop-i-init : goal.loop-i-init

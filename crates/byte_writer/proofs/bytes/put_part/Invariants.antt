@@ -1,7 +1,5 @@
-use Rattle.byte_writer.proofs.Loops.{Left, part_start, part_next, part_done}
+use Rattle.byte_writer.proofs.Loops.{Left}
 use Prim.Native.Nat.{◌≤◌, ◌-◌, ◌+◌}
-use native.Mathlib.Omega.{arith}
-use borrow.Author.Rules.{rules}
 use lib.ListN.{length, drop}
 use Rattle.byte_writer.proofs.bytes.put_part.Given as goal
 

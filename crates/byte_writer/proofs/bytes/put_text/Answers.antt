@@ -5,7 +5,6 @@ use Rattle.byte_writer.proofs.Writes.{wrote_then}
 use mathlib.Core.Path.{ap}
 use lib.ListN.{length}
 use native.Mathlib.Omega.{arith}
-use borrow.Author.Rules.{rules}
 use Rattle.byte_writer.proofs.bytes.put_text.Goals as goal
 
 pub put_part-next-requires : goal.put_part-next-requires

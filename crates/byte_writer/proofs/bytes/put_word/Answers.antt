@@ -1,8 +1,5 @@
-use Rattle.byte_writer.proofs.Loops.{Left, number_start, number_next, number_done}
-use Prim.Native.Nat.{◌≤◌, ◌-◌}
+use Rattle.byte_writer.proofs.Loops.{number_start, number_next, number_done}
 use native.Mathlib.Omega.{arith}
-use borrow.Author.Rules.{rules}
-use Rattle.action_format.specs.Bytes.{word}
 use Rattle.byte_writer.proofs.bytes.put_word.Goals as goal
 
 pub loop-next-init : goal.loop-next-init

@@ -1,7 +1,5 @@
-use Rattle.byte_writer.proofs.Loops.{Left, number_start, number_next, number_done}
+use Rattle.byte_writer.proofs.Loops.{Left}
 use Prim.Native.Nat.{◌≤◌, ◌-◌}
-use native.Mathlib.Omega.{arith}
-use borrow.Author.Rules.{rules}
 use Rattle.action_format.specs.Bytes.{word}
 use Rattle.byte_writer.proofs.bytes.put_word.Given as goal
 

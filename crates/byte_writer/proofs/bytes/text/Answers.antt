@@ -1,7 +1,6 @@
 use mathlib.Core.Path.{refl}
 use borrow.Author.Tests.{eq-eqb, ne_eqb}
 use Rattle.byte_writer.specs.Data.{text_at}
-use borrow.Author.Rules.{rules}
 use Rattle.byte_writer.proofs.bytes.text.Goals as goal
 
 pub returns-then-reference-eq4294967295 : goal.returns-then-reference-eq4294967295

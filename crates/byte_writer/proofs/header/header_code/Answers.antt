@@ -1,5 +1,4 @@
 use borrow.Author.Tests.{lt-ltb, le-ltb}
-use borrow.Author.Rules.{rules}
 use Rattle.byte_writer.proofs.header.header_code.Goals as goal
 
 pub returns-then-f-gt1 : goal.returns-then-f-gt1

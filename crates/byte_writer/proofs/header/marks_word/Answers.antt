@@ -1,6 +1,5 @@
 use Rattle.byte_writer.specs.Header.{marks_word}
 use native.Mathlib.Omega.{arith}
-use borrow.Author.Rules.{rules}
 use Rattle.byte_writer.proofs.header.marks_word.Goals as goal
 
 pub returns : goal.returns

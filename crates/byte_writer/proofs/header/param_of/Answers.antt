@@ -1,4 +1,3 @@
-use borrow.Author.Rules.{rules}
 use Rattle.byte_writer.proofs.header.param_of.Goals as goal
 
 pub returns-in-Parameter : goal.returns-in-Parameter

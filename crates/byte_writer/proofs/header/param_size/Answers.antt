@@ -1,5 +1,4 @@
 use Rattle.byte_writer.proofs.Params.{wide_size, plain_size}
-use borrow.Author.Rules.{rules}
 use Rattle.byte_writer.proofs.header.param_size.Goals as goal
 
 pub returns-then-wide : goal.returns-then-wide

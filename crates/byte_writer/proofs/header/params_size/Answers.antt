@@ -1,4 +1,4 @@
-use Rattle.byte_writer.proofs.ParamLoops.{Sized, sized_start, sized_done, sized_fits, sized_next, params_less}
+use Rattle.byte_writer.proofs.ParamLoops.{sized_start, sized_done, sized_fits, sized_next, params_less}
 use native.Mathlib.Omega.{arith}
 use Rattle.byte_writer.proofs.header.params_size.Goals as goal
 

@@ -1,7 +1,6 @@
 use Rattle.byte_writer.proofs.HeaderParts.{name_room, count_room, marks_room, params_room, size_room, header_done, params_short}
 use Rattle.action_format.specs.Bytes.{word}
 use native.Mathlib.Omega.{arith}
-use borrow.Author.Rules.{rules}
 use Rattle.byte_writer.proofs.header.put_header_data.Goals as goal
 
 pub put_text-named-requires : goal.put_text-named-requires

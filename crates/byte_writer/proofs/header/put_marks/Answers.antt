@@ -2,7 +2,6 @@ use Rattle.byte_writer.specs.Header.{marks_data}
 use native.Mathlib.Omega.{arith}
 use Rattle.action_format.specs.Bytes.{word}
 use Rattle.byte_writer.proofs.Writes.{wrote_then, wrote_none}
-use borrow.Author.Rules.{rules}
 use Rattle.byte_writer.proofs.header.put_marks.Goals as goal
 
 pub put_byte-next-requires : goal.put_byte-next-requires

@@ -3,7 +3,6 @@ use native.Mathlib.Omega.{arith}
 use Rattle.action_format.specs.Bytes.{word, zero_ended}
 use Rattle.byte_writer.proofs.Writes.{wrote_then, room_first, room_rest}
 use Rattle.byte_writer.proofs.Params.{wide_data, plain_data}
-use borrow.Author.Rules.{rules}
 use Rattle.byte_writer.proofs.header.put_param.Goals as goal
 
 pub put_word-next-requires : goal.put_word-next-requires

@@ -1,4 +1,4 @@
-use Rattle.byte_writer.proofs.ParamLoops.{Backward, backward_start, backward_done, backward_fits, backward_room, backward_next, params_less}
+use Rattle.byte_writer.proofs.ParamLoops.{backward_start, backward_done, backward_fits, backward_room, backward_next, params_less}
 use native.Mathlib.Omega.{arith}
 use Rattle.byte_writer.proofs.header.put_params.Goals as goal
 

@@ -3,7 +3,6 @@ use native.Mathlib.Omega.{arith}
 use Rattle.action_format.specs.Bytes.{word}
 use Rattle.byte_writer.specs.Data.{action_data, action_bytes}
 use Rattle.byte_writer.proofs.Frames.{framed_length, framed_done}
-use borrow.Author.Rules.{rules}
 use Rattle.byte_writer.proofs.records.put_action.Goals as goal
 
 pub put_word-requires : goal.put_word-requires

@@ -3,7 +3,6 @@ use native.Mathlib.Omega.{arith}
 use Rattle.action_format.specs.Bytes.{word}
 use Rattle.byte_writer.specs.Data.{action_data}
 use Rattle.byte_writer.proofs.Writes.{wrote_none}
-use borrow.Author.Rules.{rules}
 use Rattle.byte_writer.proofs.records.put_data.Goals as goal
 
 pub put_pool-requires : goal.put_pool-requires

@@ -2,7 +2,6 @@ use native.Mathlib.Omega.{arith}
 use Rattle.action_format.specs.Bytes.{word}
 use Rattle.byte_writer.specs.Data.{frame}
 use Rattle.byte_writer.proofs.Writes.{wrote_then}
-use borrow.Author.Rules.{rules}
 use Rattle.byte_writer.proofs.records.put_frame.Goals as goal
 
 pub put_word-requires : goal.put_word-requires

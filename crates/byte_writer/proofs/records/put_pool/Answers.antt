@@ -1,11 +1,9 @@
 use Rattle.byte_writer.proofs.Pool.{pool_text_room, pool_next, pool_done}
 use mathlib.Core.Path.{◌∙◌}
-use Rattle.byte_writer.proofs.Loops.{Left, left_start, word_length}
+use Rattle.byte_writer.proofs.Loops.{left_start, word_length}
 use Rattle.byte_writer.specs.Data.{texts_from, pool_data}
 use Rattle.action_format.specs.Bytes.{word}
 use lib.ListN.{length-append}
-use Prim.Native.Nat.{◌≤◌, ◌-◌}
-use borrow.Author.Rules.{rules}
 use native.Mathlib.Omega.{arith}
 use Rattle.byte_writer.proofs.records.put_pool.Goals as goal
 

@@ -1,12 +1,6 @@
-use Rattle.byte_writer.proofs.Pool.{pool_text_room, pool_next, pool_done}
-use mathlib.Core.Path.{◌∙◌}
-use Rattle.byte_writer.proofs.Loops.{Left, left_start, word_length}
-use Rattle.byte_writer.specs.Data.{texts_from, pool_data}
-use Rattle.action_format.specs.Bytes.{word}
-use lib.ListN.{length-append}
+use Rattle.byte_writer.proofs.Loops.{Left}
+use Rattle.byte_writer.specs.Data.{texts_from}
 use Prim.Native.Nat.{◌≤◌, ◌-◌}
-use borrow.Author.Rules.{rules}
-use native.Mathlib.Omega.{arith}
 use Rattle.byte_writer.proofs.records.put_pool.Given as goal
 
 abbrev pub invariant-loop-i : goal.invariant-loop-i

@@ -2,7 +2,6 @@ use borrow.Author.Tests.{lt-leb, le-leb}
 use native.Mathlib.Omega.{arith}
 use Rattle.action_format.specs.Bytes.{word}
 use Rattle.byte_writer.proofs.Writes.{wrote_then}
-use borrow.Author.Rules.{rules}
 use Rattle.byte_writer.proofs.values.put_constant.Goals as goal
 
 pub put_byte-next-requires : goal.put_byte-next-requires

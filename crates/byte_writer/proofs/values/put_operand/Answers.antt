@@ -3,7 +3,6 @@ use native.Mathlib.Omega.{arith}
 use Rattle.action_format.specs.Bytes.{word}
 use Rattle.byte_writer.specs.Data.{operand_data}
 use Rattle.byte_writer.proofs.Writes.{wrote_then, wrote_none}
-use borrow.Author.Rules.{rules}
 use Rattle.byte_writer.proofs.values.put_operand.Goals as goal
 
 pub put_text-requires : goal.put_text-requires

@@ -2,7 +2,6 @@ use borrow.Author.Tests.{ne_eqb}
 use native.Mathlib.Omega.{arith}
 use Rattle.byte_writer.specs.Data.{value_data}
 use Rattle.byte_writer.proofs.Writes.{wrote_then}
-use borrow.Author.Rules.{rules}
 use Rattle.byte_writer.proofs.values.put_value.Goals as goal
 
 pub put_constant-requires : goal.put_constant-requires
