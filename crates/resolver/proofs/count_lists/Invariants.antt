@@ -1,0 +1,10 @@
+use native.Mathlib.Omega.{arith}
+use borrow.Author.Rules.{rules}
+use Rattle.resolver.proofs.Counting.{CountInv, count_start, count_again, count_found, count_none}
+use Rattle.resolver.proofs.count_lists.Given as goal
+
+abbrev pub invariant-loop-n : goal.invariant-loop-n
+invariant-loop-n l = CountInv l.list l.n
+
+abbrev pub decreases-loop-n : goal.decreases-loop-n
+decreases-loop-n l = l.n
