@@ -4,8 +4,8 @@ use Rattle.std.proofs.Math.Option.{Option, none, some}
 use Rattle.hir.specs.Tree.{Forest, more}
 use Rattle.pcode.specs.Pcode.{Value}
 use Rattle.pcode.specs.declared.Op.TheVariants.{StrictEquals}
-use Rattle.lowering.specs.Builder.{Step, ◌>>◌, ◌>>=◌, done, when, action, push, push_string, mark_label, mark_default}
-use Rattle.lowering.specs.Access.{store_register, call, call_new}
+use Rattle.lowering.specs.Builder.{Step, ◌>>◌, done, when, action, push, push_string, mark_label, mark_default}
+use Rattle.lowering.specs.Access.{store_register}
 use Rattle.lowering.specs.Meaning.{Loop, Meaning, param, hoisted, element, width}
 use Rattle.lowering.specs.Meaning as meaning
 use Rattle.lowering.specs.Statement.{SwitchElement, branch, expr, discarded, has_case, gen_conditionals, gen_call, gen_new}

@@ -1,0 +1,8 @@
+use Rattle.rows.proofs.Innermost.{InnerInv}
+use Rattle.rows.proofs.blocks.innermost.Given as goal
+
+abbrev pub invariant-loop-block : goal.invariant-loop-block
+invariant-loop-block l = InnerInv l.file l.l l.breaks l.continues l.initial.inner l.inner l.block
+
+abbrev pub decreases-loop-block : goal.decreases-loop-block
+decreases-loop-block l = l.inner.n
