@@ -2,7 +2,6 @@ use Rattle.action_writer.proofs.Top.{cleared_leaves}
 use Rattle.zeros.proofs.Clearing.{cleared}
 use Rattle.definition.specs.Compile.{lists_of, if_lowered}
 use Rattle.lowering.specs.Builder.{limits01}
-use borrow.Author.Rules.{rules}
 use Rattle.action_writer.proofs.write.Goals as goal
 
 pub write_with_tables-requires : goal.write_with_tables-requires

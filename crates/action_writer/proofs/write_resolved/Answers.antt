@@ -1,7 +1,6 @@
 use Rattle.action_writer.proofs.Answers.{refused_leaves, resolved-is, is-measured, top-leaves}
 use Rattle.action_writer.proofs.Ready.{writable}
 use native.Mathlib.Omega.{arith}
-use borrow.Author.Rules.{rules}
 use Rattle.action_writer.proofs.write_resolved.Goals as goal
 
 pub returns-then-refusal-ne0 : goal.returns-then-refusal-ne0

@@ -1,6 +1,5 @@
 use Rattle.action_writer.proofs.Top.{top_refused, top_room, top_done}
 use native.Mathlib.Omega.{arith}
-use borrow.Author.Rules.{rules}
 use Rattle.action_writer.proofs.write_top.Goals as goal
 
 pub returns-then-output-size : goal.returns-then-output-size

@@ -1,6 +1,5 @@
 use Prim.Native.Nat.{ℕ}
 use lib.ListN.{length-replicate}
-use borrow.Author.Rules.{rules}
 use Rattle.action_writer.proofs.write_with_tables.Goals as goal
 
 pub write_resolved-requires : goal.write_resolved-requires

@@ -1,6 +1,5 @@
 use Prim.Native.Nat.{◌+◌}
 use native.Mathlib.Omega.{arith}
-use borrow.Author.Rules.{rules}
 use Rattle.action_writer.proofs.list.list_end.Goals as goal
 
 pub overflow_cast-result : goal.overflow_cast-result

@@ -1,6 +1,5 @@
 use mathlib.Core.Path.{◌∙◌}
 use Rattle.action_writer.proofs.Building.{start_next}
-use borrow.Author.Rules.{rules}
 use Rattle.action_writer.proofs.list.list_start.Goals as goal
 
 pub returns : goal.returns

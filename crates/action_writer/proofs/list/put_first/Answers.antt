@@ -2,7 +2,6 @@ use Rattle.byte_writer.proofs.Frames.{framed_length, framed_done}
 use Rattle.byte_writer.specs.Data.{value_data}
 use Prim.Native.Nat.{◌%◌}
 use native.Mathlib.Omega.{arith}
-use borrow.Author.Rules.{rules}
 use Rattle.action_writer.proofs.list.put_first.Goals as goal
 
 pub put_value-end-requires : goal.put_value-end-requires

@@ -1,6 +1,5 @@
 use mathlib.Core.Path.{◌∙◌}
 use native.Mathlib.Omega.{arith}
-use borrow.Author.Rules.{rules}
 use Rattle.action_writer.proofs.list.put_later.Goals as goal
 
 pub put_value-end-requires : goal.put_value-end-requires
