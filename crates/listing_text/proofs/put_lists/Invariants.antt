@@ -1,5 +1,5 @@
 -- `put_lists` is safe and ends.
-use Rattle.std.proofs.Common.{◌-◌, ◌≡◌, ℕ, ◌+◌, ◌*◌, ◌<◌, ◌≤◌, length}
+use Rattle.std.proofs.Common.{◌-◌, ◌≤◌}
 use Rattle.listing_text.proofs.put_lists.Given as goal
 
 abbrev pub invariant-loop-k : goal.invariant-loop-k

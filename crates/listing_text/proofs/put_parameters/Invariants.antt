@@ -1,5 +1,5 @@
 -- `put_parameters` is safe and ends.
-use Rattle.std.proofs.Common.{◌-◌, ◌≡◌, ℕ, ◌+◌, ◌*◌, ◌<◌, ◌≤◌, length}
+use Rattle.std.proofs.Common.{◌-◌, ◌≤◌}
 use Rattle.listing_text.proofs.put_parameters.Given as goal
 
 abbrev pub invariant-loop-i : goal.invariant-loop-i

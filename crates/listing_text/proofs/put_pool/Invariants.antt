@@ -1,5 +1,5 @@
 -- `put_pool` is safe and ends.
-use Rattle.std.proofs.Common.{◌-◌, ◌≡◌, ℕ, ◌+◌, ◌*◌, ◌<◌, ◌≤◌, length}
+use Rattle.std.proofs.Common.{◌-◌, ◌≤◌}
 use Rattle.listing_text.proofs.put_pool.Given as goal
 
 abbrev pub invariant-loop-i : goal.invariant-loop-i

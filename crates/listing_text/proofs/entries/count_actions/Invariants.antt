@@ -1,5 +1,5 @@
 -- `count_actions` is safe and ends: it counts at most one action for an entry.
-use Rattle.std.proofs.Common.{◌-◌, ◌≡◌, ℕ, ◌+◌, ◌*◌, ◌<◌, ◌≤◌, length}
+use Rattle.std.proofs.Common.{◌-◌, ◌+◌, ◌≤◌}
 use Rattle.listing_text.proofs.entries.count_actions.Given as goal
 
 abbrev pub invariant-loop-i : goal.invariant-loop-i

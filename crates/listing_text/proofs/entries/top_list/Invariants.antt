@@ -1,5 +1,5 @@
 -- `top_list` meets its contract.
-use Rattle.std.proofs.Common.{◌-◌, ◌≡◌, ℕ, ◌+◌, ◌*◌, ◌<◌, ◌≤◌, length}
+use Rattle.std.proofs.Common.{◌≤◌}
 use Rattle.listing_text.proofs.entries.top_list.Given as goal
 
 abbrev pub invariant-loop-k : goal.invariant-loop-k

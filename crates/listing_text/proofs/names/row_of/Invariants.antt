@@ -1,5 +1,5 @@
 -- `row_of` is safe and ends.
-use Rattle.std.proofs.Common.{◌-◌, ◌≡◌, ℕ, ◌+◌, ◌*◌, ◌<◌, ◌≤◌, length}
+use Rattle.std.proofs.Common.{◌-◌, ◌≤◌}
 use Rattle.listing_text.proofs.names.row_of.Given as goal
 
 abbrev pub invariant-loop-i : goal.invariant-loop-i
