@@ -14,7 +14,7 @@ use Rattle.script_records.specs.declared.layout.Layout.{Layout}
 use Rattle.script_records.specs.declared.part.Part.{Part}
 use Rattle.lowering.specs.Builder.{limits01, Result, ok, refused}
 use Rattle.lowering.specs.Meaning.{Meaning}
-use Rattle.lowering.specs.Statement.{Lists, lists, refusal, no_loop, gen_statements, start, generate_actions, finish, script_to_actions}
+use Rattle.lowering.specs.Statement.{lists, refusal, no_loop, gen_statements, start, generate_actions, finish, script_to_actions}
 use Rattle.list_slice.specs.Words.{zeros_of}
 use Rattle.list_slice.specs.Compiled.{Holds}
 use Rattle.list_slice.proofs.Areas.{zeros_length}

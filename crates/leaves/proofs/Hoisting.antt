@@ -8,7 +8,7 @@ use Rattle.script_records.specs.declared.layout.Layout.{Layout}
 use Rattle.script_records.specs.declared.part.Part.{Part}
 use Rattle.lowering.specs.Meaning.{hoisted}
 use Rattle.lowering.specs.Statement.{meanings}
-use Rattle.tree.specs.Trees.{trees, node_of}
+use Rattle.tree.specs.Trees.{node_of}
 use Rattle.tree.specs.Within.{Within, meanings_at, kid_at, list_at}
 use Rattle.tree.proofs.Nodes.{is_node, trees_more, trees_none}
 use Rattle.rows.specs.Rows.{any_hoisted}

@@ -1,9 +1,9 @@
 -- What each construct does, from what its steps do.
-use Prim.Native.Nat.{ℕ, ◌+◌, ◌-◌}
+use Prim.Native.Nat.{ℕ, ◌+◌}
 use mathlib.Core.Path.{◌≡◌, refl, sym, ap, ◌∙◌}
 use mathlib.Core.List.{List}
 use mathlib.Core.Bool.{Bool, true, false, cond, not, ◌&&◌, ◌||◌}
-use mathlib.Core.Option.{some, none}
+use mathlib.Core.Option.{some}
 use native.Mathlib.Omega.{arith}
 use lib.Dec.{ltb}
 use Rattle.hir.specs.declared.Affix.{Affix}
@@ -17,8 +17,7 @@ use Rattle.lowering.specs.Builder.{Step, ◌>>◌, ◌>>=◌, done, when, action
 use Rattle.lowering.specs.Access.{Access, Object, Direct, ◌gives◌, store_register, get_value, delete, call, call_new}
 use Rattle.lowering.specs.Operators.{trivial-assign, assign, logical-and, logical-or}
 use Rattle.lowering.specs.Meaning.{Loop, width, present, param, string, integer}
-use Rattle.lowering.specs.Meaning as meaning
-use Rattle.lowering.specs.Statement.{meaning, jump, branch, expr, discarded, exprs, all_discarded, gen_those, gen_statements, gen_block, gen_values, gen_declaration, with_labels, has_case, has_default, gen_conditionals, gen_elements, gen_cases, gen_switch, gen_while_loop, gen_target, gen_condition, gen_enumerate, gen_classic, gen_branches, gen_if, assign_value, gen_trivial, gen_binary_op, is_prefix, adjust_in_place, gen_ternary, gen_arguments, gen_call, gen_new, gen_fields, gen_init_object, gen_init_array, gen_duplicate, frame, gen_goto_frame, bit, gen_start_drag}
+use Rattle.lowering.specs.Statement.{jump, branch, expr, discarded, exprs, all_discarded, gen_those, gen_statements, gen_block, gen_values, gen_declaration, with_labels, has_case, has_default, gen_conditionals, gen_elements, gen_cases, gen_switch, gen_while_loop, gen_target, gen_condition, gen_enumerate, gen_classic, gen_branches, gen_if, assign_value, gen_trivial, gen_binary_op, is_prefix, adjust_in_place, gen_ternary, gen_arguments, gen_call, gen_new, gen_fields, gen_init_object, gen_init_array, gen_duplicate, frame, gen_goto_frame, bit, gen_start_drag}
 use Rattle.lowering.proofs.Laws.{width_law}
 use Rattle.list_slice.specs.File.{text_in}
 use Rattle.codegen_state.specs.declared.CodeBuilder.{CodeBuilder}

@@ -25,7 +25,7 @@ use Rattle.script_records.specs.Layout.{layout_of, string_at}
 use Rattle.script.specs.Resolve.{resolved, statement_over}
 use Rattle.lowering.specs.Builder.{Step, ◌>>◌, done, when, action, plain_action, push, define_function, define_delta, name_delta}
 use Rattle.lowering.specs.Meaning.{Loop, Meaning, nth, list, present, element, shape_of, literal}
-use Rattle.lowering.specs.Statement.{meanings, expr, exprs, all_discarded, branch, has_case, has_default, no_loop, header, gen_statements, gen_values, gen_condition, default_label, is_prefix, bit, gen_start_drag, gen_expr, gen_statement, expr_of, statement_of, for_shape}
+use Rattle.lowering.specs.Statement.{meanings, expr, exprs, all_discarded, branch, has_case, has_default, no_loop, header, gen_statements, gen_values, gen_condition, default_label, is_prefix, bit, gen_start_drag, gen_statement, expr_of, statement_of, for_shape}
 use Rattle.lowering.proofs.Laws.{kid_law, list_law}
 use Rattle.list_slice.specs.File.{header_in, params_of, names_string, names_function}
 use Rattle.tree.specs.declared.Node.{Node}

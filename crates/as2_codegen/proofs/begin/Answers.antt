@@ -1,4 +1,3 @@
-use borrow.Author.Rules.{rules}
 use Rattle.as2_codegen.proofs.First.{begins}
 use Rattle.as2_codegen.proofs.begin.Goals as goal
 

@@ -1,8 +1,5 @@
-use Prim.Native.Nat.{◌-◌}
 use native.Mathlib.Omega.{arith}
-use borrow.Author.Rules.{rules}
-use lib.ListN.{length}
-use Rattle.as2_codegen.proofs.Copying.{Clearing, clearing_none, clearing_more, clearing_all}
+use Rattle.as2_codegen.proofs.Copying.{clearing_none, clearing_more, clearing_all}
 use Rattle.as2_codegen.proofs.clear_index.Goals as goal
 
 pub loop-i-init : goal.loop-i-init

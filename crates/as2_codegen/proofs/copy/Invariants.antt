@@ -1,7 +1,5 @@
 use Prim.Native.Nat.{◌-◌}
-use native.Mathlib.Omega.{arith}
-use borrow.Author.Rules.{rules}
-use Rattle.as2_codegen.proofs.Copying.{Copying, copying_none, copying_more, copying_all}
+use Rattle.as2_codegen.proofs.Copying.{Copying}
 use Rattle.as2_codegen.proofs.copy.Given as goal
 
 abbrev pub invariant-loop-i : goal.invariant-loop-i

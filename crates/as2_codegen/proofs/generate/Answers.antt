@@ -1,4 +1,3 @@
-use borrow.Author.Rules.{rules}
 use Rattle.as2_codegen.proofs.Meets.{generating, base_is, generated_lists, generated_refusal}
 use Rattle.as2_codegen.proofs.generate.Goals as goal
 

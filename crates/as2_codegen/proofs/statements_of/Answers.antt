@@ -1,4 +1,3 @@
-use borrow.Author.Rules.{rules}
 use Rattle.as2_codegen.proofs.statements_of.Goals as goal
 
 pub returns-then-count-eq0 : goal.returns-then-count-eq0

@@ -1,7 +1,6 @@
 use native.Mathlib.Omega.{arith}
 use Rattle.as2_codegen.proofs.Meets.{walk, few, without_loop}
 use Rattle.tree.specs.Within.{meanings_at}
-use borrow.Author.Rules.{rules}
 use Rattle.as2_codegen.proofs.with_large.Goals as goal
 
 pub gen_statements-requires : goal.gen_statements-requires

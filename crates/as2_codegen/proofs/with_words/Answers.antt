@@ -1,4 +1,3 @@
-use borrow.Author.Rules.{rules}
 use Rattle.as2_codegen.proofs.Copying.{all_zeros}
 use Rattle.as2_codegen.proofs.with_words.Goals as goal
 

@@ -1,4 +1,3 @@
-use borrow.Author.Rules.{rules}
 use Rattle.leaves.proofs.assign_value.Goals as goal
 
 pub returns-then-discard : goal.returns-then-discard

@@ -1,7 +1,6 @@
 use mir.Syntax.{w32}
 use mir.ValLaws.{to_z-of_z}
 use Rattle.leaves.proofs.Numbers.{frame_zero, frame_less}
-use borrow.Author.Rules.{rules}
 use Rattle.leaves.proofs.frame_of.Goals as goal
 
 pub returns-then-n-eq0 : goal.returns-then-n-eq0

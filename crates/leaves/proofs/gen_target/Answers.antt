@@ -1,6 +1,5 @@
 use mathlib.Core.List.{[]}
 use Rattle.leaves.proofs.Constructs.{declared, variable, register}
-use borrow.Author.Rules.{rules}
 use Rattle.leaves.proofs.gen_target.Goals as goal
 
 pub push-b2-requires : goal.push-b2-requires

@@ -1,6 +1,6 @@
 use mathlib.Core.Path.{refl}
 use borrow.Author.Rules.{rules}
-use Rattle.leaves.proofs.Hoisting.{Looked, looked_none, looked_all, looked_found, looked_less, looked_more}
+use Rattle.leaves.proofs.Hoisting.{looked_none, looked_all, looked_found, looked_less, looked_more}
 use Rattle.leaves.proofs.has_hoisted.Goals as goal
 use Rattle.leaves.proofs.has_hoisted.Goals.{then-may_be_hoisted+else-is_named, else-may_be_hoisted}
 

@@ -1,7 +1,4 @@
-use mathlib.Core.Path.{refl}
-use mathlib.Core.Logic.{⊎_elim}
-use borrow.Author.Rules.{rules}
-use Rattle.leaves.proofs.Hoisting.{Looked, looked_none, looked_all, looked_found, looked_less, looked_more}
+use Rattle.leaves.proofs.Hoisting.{Looked}
 use Rattle.leaves.proofs.has_hoisted.Given as goal
 
 abbrev pub invariant-loop-left : goal.invariant-loop-left

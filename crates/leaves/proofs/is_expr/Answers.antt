@@ -1,5 +1,4 @@
 use Rattle.script.specs.Resolve.{resolved}
-use borrow.Author.Rules.{rules}
 use Rattle.leaves.proofs.is_expr.Goals as goal
 
 pub returns-in-Expr-kind : goal.returns-in-Expr-kind

@@ -3,7 +3,6 @@ use Rattle.operators.specs.Shapes.{shape_in}
 use Rattle.operators.proofs.Shapes.{shape_is}
 use borrow.Author.Tests.{not-true, not-false}
 use Rattle.leaves.proofs.Records.{not_expr, by_shape}
-use borrow.Author.Rules.{rules}
 use Rattle.leaves.proofs.is_named.Goals as goal
 
 pub returns-then-not-is_expr : goal.returns-then-not-is_expr

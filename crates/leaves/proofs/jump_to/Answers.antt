@@ -1,5 +1,4 @@
 use Rattle.codegen_state.proofs.Steps.{idle}
-use borrow.Author.Rules.{rules}
 use Rattle.leaves.proofs.jump_to.Goals as goal
 
 pub returns-in-To : goal.returns-in-To

@@ -1,5 +1,4 @@
 use Rattle.leaves.proofs.Records.{no_name, empty_name, full_name}
-use borrow.Author.Rules.{rules}
 use Rattle.leaves.proofs.leaves_value.Goals as goal
 
 pub returns-then-name-eq0 : goal.returns-then-name-eq0

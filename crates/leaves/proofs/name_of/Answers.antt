@@ -1,7 +1,6 @@
 use Rattle.script.specs.Resolve.{resolved}
 use Rattle.access.proofs.Texts.{no_text_lem, no_text_named}
 use Rattle.leaves.proofs.Records.{key_name, parameter_name}
-use borrow.Author.Rules.{rules}
 use Rattle.leaves.proofs.name_of.Goals as goal
 
 pub returns-in-ObjectField : goal.returns-in-ObjectField

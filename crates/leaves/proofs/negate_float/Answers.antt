@@ -1,5 +1,4 @@
 use Rattle.leaves.proofs.Numbers.{sign_set, sign_cleared}
-use borrow.Author.Rules.{rules}
 use Rattle.leaves.proofs.negate_float.Goals as goal
 
 pub returns-then-high-lt2147483648 : goal.returns-then-high-lt2147483648

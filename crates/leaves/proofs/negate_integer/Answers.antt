@@ -2,7 +2,6 @@ use lib.IntN.{pos, ◌-ℤ◌}
 use mir.Syntax.{w32}
 use mir.ValLaws.{to_z-of_z}
 use Rattle.leaves.proofs.Numbers.{is_least, not_least, negative_fits, negative_word}
-use borrow.Author.Rules.{rules}
 use Rattle.leaves.proofs.negate_integer.Goals as goal
 
 pub returns-then-n-eqminus2147483648 : goal.returns-then-n-eqminus2147483648

@@ -1,5 +1,4 @@
 use Rattle.codegen_state.proofs.Steps.{idle}
-use borrow.Author.Rules.{rules}
 use Rattle.leaves.proofs.play_if.Goals as goal
 
 pub returns-then-play : goal.returns-then-play

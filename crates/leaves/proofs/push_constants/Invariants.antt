@@ -1,8 +1,4 @@
-use borrow.Author.Rules.{rules}
-use native.Mathlib.Omega.{arith}
-use Rattle.tree.proofs.ByKind.{rest_made}
 use Rattle.leaves.specs.Args.{Args}
-use Rattle.leaves.proofs.Args.{args_holds, args_less, args_named, args_constant, args_without, args_of_all}
 use Rattle.leaves.proofs.push_constants.Given as goal
 
 abbrev pub invariant-loop-rest : goal.invariant-loop-rest

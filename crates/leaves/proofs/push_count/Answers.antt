@@ -1,6 +1,5 @@
 use mir.Syntax.{w32}
 use mir.ValLaws.{to_z-of_z}
-use borrow.Author.Rules.{rules}
 use Rattle.leaves.proofs.push_count.Goals as goal
 
 pub returns : goal.returns

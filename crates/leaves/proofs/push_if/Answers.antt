@@ -1,7 +1,6 @@
 use native.Mathlib.Omega.{arith}
 use borrow.Author.Tests.{lt-ltb}
 use Rattle.codegen_state.proofs.Steps.{idle}
-use borrow.Author.Rules.{rules}
 use Rattle.leaves.proofs.push_if.Goals as goal
 
 pub returns-then-cases-eq0 : goal.returns-then-cases-eq0

@@ -1,6 +1,4 @@
-use borrow.Author.Rules.{rules}
 use Rattle.leaves.specs.Args.{Unchanged}
-use Rattle.leaves.proofs.Args.{unchanged, void_less, void_out}
 use Rattle.leaves.proofs.without_voids.Given as goal
 
 abbrev pub invariant-loop-l : goal.invariant-loop-l
