@@ -3,7 +3,7 @@
 use crate::{Compiled, LIST_WORDS, Refusal, WORK_WORDS};
 
 // Each slice is its first element and its length; what is lent may not overlap. The word returned is the length, or `u64::MAX` less the refusal's number
-// (crates/rascal/src/exports.rt).
+// (crates/rascal_c/src/lib.rt).
 unsafe extern "C" {
     fn rascal_compile(
         file: *const u8,

@@ -16,7 +16,7 @@ use Rattle.special_properties.specs.SpecialProperties.{same_bytes, null, undefin
 use Rattle.script_records.specs.Layout.{layout_of, string_at}
 use Rattle.script.specs.Resolve.{constant_over}
 use Rattle.lowering.specs.Builder.{◌>>◌, refuse, action, plain_action, push, push_string}
-use Rattle.lowering.specs.Access.{Access, Variable, Direct, SpecialProperty, Register, for_name, for_identifier, for_constant, store_register}
+use Rattle.lowering.specs.Access.{Access, Variable, Direct, SpecialProperty, for_name, for_identifier, for_constant, store_register}
 use Rattle.list_slice.specs.File.{text_in, names_string}
 use Rattle.codegen_state.specs.declared.CodeBuilder.{CodeBuilder}
 use Rattle.codegen_state.specs.View.{value_in}

@@ -18,7 +18,6 @@ use Rattle.list_slice.specs.Entry.{entry}
 use Rattle.list_slice.specs.Read.{at}
 use Rattle.builder.specs.Entries.{put3}
 use Rattle.definition.specs.Outcome.{byte_limits}
-use Rattle.record_reader.specs.declared.Kind.{Kind}
 use Rattle.record_reader.specs.declared.Kind.TheVariants as kind
 use Rattle.record_reader.specs.declared.Head.{Head}
 use Rattle.record_reader.specs.Heads.{record_kind, record_holds_in, head_at}

@@ -12,7 +12,7 @@ use Rattle.hir.specs.Hir.{Str}
 use Rattle.utf8.specs.Utf8.{utf8}
 use Rattle.pcode.specs.Pcode.{Header, op, ConstantPool, StoreRegister, GotoFrame, GotoFrame2, GotoLabel, plain}
 use Rattle.action_format.specs.Lists.{Lists, all_lists, Single, simple, pushing, branching, all}
-use Rattle.action_format.specs.Strings.{strings, zero_free, lists_are_utf8}
+use Rattle.action_format.specs.Strings.{zero_free, lists_are_utf8}
 use Rattle.action_format.specs.Rules.{pool_first, pool_count, list_fits, within, shaped}
 use Rattle.action_format.specs.Code.{Code, end, act, fun}
 use Rattle.action_format.specs.Bytes.{Bytes, single_bytes}
@@ -27,7 +27,6 @@ use Rattle.list_slice.specs.Words.{zeros_of, joined, ends_from}
 use Rattle.list_slice.specs.Read.{Placed, at}
 use Rattle.builder.specs.Entries.{put3}
 use Rattle.builder.proofs.Words.{length_put}
-use Rattle.record_reader.specs.declared.Kind.{Kind}
 use Rattle.record_reader.specs.declared.Kind.TheVariants as kind
 use Rattle.record_reader.specs.declared.Head.{Head}
 use Rattle.record_reader.specs.Heads.{record_kind, record_holds_in, head_at}

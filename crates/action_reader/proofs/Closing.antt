@@ -19,7 +19,7 @@ use Rattle.action_reader.specs.Layout.{layout}
 use Rattle.action_reader.specs.State.{close_after, finish_after}
 use Rattle.action_reader.specs.Lists.{Ready, Given, ClosedAs, FinishedAs, positions_of}
 use Rattle.action_reader.specs.View.{upper, Held, Laid, Noted, Kept, Stands}
-use Rattle.action_reader.specs.Walked.{going, done, refused, Stepped}
+use Rattle.action_reader.specs.Walked.{going, done, Stepped}
 use Rattle.action_reader.proofs.Steps.{step_end}
 use Rattle.action_reader.proofs.Weights.{total_append}
 use Rattle.action_reader.proofs.Slice.{layout_end}

@@ -7,7 +7,7 @@ use native.Mathlib.Decide.{dec_lt}
 use native.Mathlib.Numerals.{add-one}
 use lib.ListN.{length, get_or, set, take, drop, length-append, length-map, length-set}
 use lib.Seq.{take-suc-set, get_or-set_same, get_or-set_other, get_or-take, take-take, take-append_seam, drop-append_seam, get_or-append-add, get_or-append_seam}
-use Rattle.list_slice.specs.Read.{Placed, at}
+use Rattle.list_slice.specs.Read.{Placed}
 use Rattle.list_slice.proofs.Read.{map_append}
 use Rattle.action_reader.specs.declared.walk.Walk.{Walk}
 use Rattle.action_reader.specs.Walk.{ended_at, Open, defined, bounds}

@@ -7,9 +7,8 @@ use native.Mathlib.Omega.{arith}
 use lib.ListN.{length, get_or, length-append, length-map}
 use Rattle.action_format.specs.Lists.{all}
 use Rattle.list_slice.specs.Entry.{Entry, entry}
-use Rattle.list_slice.specs.Entry as entries
 use Rattle.list_slice.specs.Words.{joined, ends_from}
-use Rattle.list_slice.specs.Read.{Placed, at}
+use Rattle.list_slice.specs.Read.{Placed}
 use Rattle.list_slice.proofs.Read.{map_append}
 use Rattle.list_slice.proofs.Parse.{ends_length}
 use Rattle.builder.specs.Entries.{put3}

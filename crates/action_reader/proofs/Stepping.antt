@@ -14,7 +14,6 @@ use Rattle.pcode.specs.Pcode.{Value, Header, push, define}
 use Rattle.lowering.specs.Builder.{limits01}
 use Rattle.action_format.specs.Lists.{Single, pushing, single}
 use Rattle.action_format.specs.Rules.{Limits, action_values}
-use Rattle.action_format.specs.Code.{end}
 use Rattle.action_format.specs.Bytes.{Bytes, value_bytes, single_bytes, header_bytes}
 use Rattle.action_format.specs.Readers.{read_bytes}
 use Rattle.action_format.specs.Decode.{Record, alone, header, read_record, decode}

@@ -9,7 +9,6 @@ use lib.ListN.{length}
 use borrow.Author.Tests.{eq-eqb}
 use Rattle.script.specs.Write.{Bytes}
 use Rattle.lowering.specs.Builder.{limits01}
-use Rattle.lowering.specs.Statement as lowering
 use Rattle.action_format.specs.Lists.{Lists}
 use Rattle.action_format.specs.Strings.{zero_free}
 use Rattle.action_format.specs.Code.{code}

@@ -9,7 +9,6 @@ use lib.ListN.{length, take, drop, length-map, length-take, length-drop}
 use lib.Seq.{take-take}
 use borrow.Author.Tests.{ne_eqb, lt-leb, le-leb, ltb-true, ltb-false}
 use Rattle.pcode.specs.declared.Op.{Op}
-use Rattle.pcode.specs.Pcode as pcode
 use Rattle.pcode.specs.Pcode.{Plain, row_of, Jump, If, Branching}
 use Rattle.script_records.specs.declared.layout.Layout.{Layout}
 use Rattle.script_records.specs.Layout.{layout_of}

@@ -16,7 +16,6 @@ use Rattle.lowering.specs.Builder.{limits01}
 use Rattle.action_format.specs.ByPlace.{place_of_label, items_by_place}
 use Rattle.action_format.specs.Lists.{Lists, all, all_lists}
 use Rattle.action_format.specs.Strings.{lists_are_utf8}
-use Rattle.action_format.specs.Rules as rules
 use Rattle.action_format.specs.Rules.{OfLowering, list_fits, pool_first, pool_count, within}
 use Rattle.action_format.specs.ByList.{list_of}
 use Rattle.action_format.proofs.Tests.{All, and_first, and_second, all_at}

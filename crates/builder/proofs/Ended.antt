@@ -9,7 +9,7 @@ use lib.Dec.{T, eqb, ltb}
 use lib.ListN.{length, get_or, drop, length-take, length-drop, length-map}
 use borrow.Author.Tests.{lt-ltb, le-ltb, eqb-true, eqb-false, ltb-true, ltb-false}
 use Rattle.pcode.specs.Pcode.{Header, Action, Item, moved}
-use Rattle.lowering.specs.Builder.{State, refused, refuse, define_delta, defined}
+use Rattle.lowering.specs.Builder.{State, refuse, define_delta, defined}
 use Rattle.list_slice.specs.Entry.{Entry, entry, entry_of, piece_of}
 use Rattle.list_slice.specs.Entry as piece
 use Rattle.list_slice.specs.Words.{entry_at, run, cut}

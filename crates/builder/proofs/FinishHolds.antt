@@ -33,7 +33,7 @@ use Rattle.builder.specs.Entries.{put3}
 use Rattle.builder.specs.Move.{Moved}
 use Rattle.builder.specs.Places.{Copied, Cleared, Located, list_at, lists_at, Standing, Finished, finished}
 use Rattle.builder.proofs.Leaves.{cut_same}
-use Rattle.builder.proofs.Words.{length_put, getD_put, entry_same, entry_other, entry_side}
+use Rattle.builder.proofs.Words.{getD_put, entry_same, entry_other, entry_side}
 use Rattle.builder.proofs.Move.{same_inside, side_word, part_more}
 use Rattle.builder.proofs.Ended.{rising_snoc, cut_snoc, run_moved, run_snoc}
 use Rattle.builder.proofs.FinishWords.{same_entries, located_append}

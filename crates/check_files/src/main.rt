@@ -5,6 +5,8 @@ ghost use Rattle.std.specs.Prelude.{◌≤◌, ◌≡◌};
 ghost use Rattle.script.specs.Rules.{check_of, refusal_of};
 
 use script::Answer;
+use std::io;
+use std::io::{BufWriter, Read, Write};
 use text_lines::{decode, find};
 
 // Document 01's number, 0 for an accepted file.
@@ -29,49 +31,44 @@ fn answer(file: &[u8]) -> u8
 }
 
 // One line: the file's bytes go into `file`, whose other bytes are left as they are.
-fn check_line(line: &[u8], file: &mut [u8]) {
+fn check_line<W: Write>(line: &[u8], file: &mut [u8], out: &mut W) -> io::Result<()> {
     let name = find(line, 0, b' ');
-    io::write_all(1, &line[0..name]);
+    out.write_all(&line[0..name])?;
     if name >= line.len() {
-        io::write_all(1, b" no bytes\n");
-        return;
+        return out.write_all(b" no bytes\n");
     }
     let p = decode(&line[name + 1..], file);
     if !p.good {
-        io::write_all(1, b" not decoded\n");
-        return;
+        return out.write_all(b" not decoded\n");
     }
     let n = p.bytes;
     let r = answer(&file[0..n]);
-    io::write_all(1, &[b' ', b'0' + r, b'\n']);
+    out.write_all(&[b' ', b'0' + r, b'\n'])
 }
 
-fn check_lines(text: &[u8], file: &mut [u8]) {
+fn check_lines<W: Write>(text: &[u8], file: &mut [u8], out: &mut W) -> io::Result<()> {
     let mut at = 0;
     while at < text.len() {
         let end = find(text, at, b'\n');
-        check_line(&text[at..end], file);
+        check_line(&text[at..end], file, out)?;
         at = end + 1;
     }
+    Ok(())
 }
 
-// Reads the whole text, then checks its lines.
-fn read_and_check(text: &mut [u8], file: &mut [u8]) {
-    let n = io::read_full(0, text);
-    if n == text.len() {
-        io::write_all(1, b"the text is too long\n");
-        return;
+// Checks the lines of the whole text.
+fn check_text<W: Write>(text: &[u8], file: &mut [u8], out: &mut W) -> io::Result<()> {
+    if text.len() == 2097152 {
+        return out.write_all(b"the text is too long\n");
     }
-    check_lines(&text[..n], file);
+    check_lines(text, file, out)
 }
 
-// Takes the arrays lent, so that no proof computes with their zeros.
-fn run(text: &mut [u8; 2097152], file: &mut [u8; 1048832]) {
-    read_and_check(text, file);
-}
-
-fn main() {
-    let mut text = [0u8; 2097152];
-    let mut file = [0u8; 1048832];
-    run(&mut text, &mut file);
+fn main(rt: HostRuntime) -> io::Result<()> {
+    let mut text = Vec::new(rt.alloc());
+    rt.stdin().take(2097152).read_to_end(&mut text)?;
+    let mut file = vec![in rt.alloc(); 0u8; 1048832]?;
+    let mut out = BufWriter::new(rt.alloc(), rt.stdout())?;
+    check_text(&text, &mut file, &mut out)?;
+    out.flush()
 }

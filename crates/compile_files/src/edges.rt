@@ -3,6 +3,8 @@ ghost use Rattle.std.specs.Prelude.{◌<◌};
 
 use listing_text::text::{put, put_number, put_text};
 use rascal::{Compiled, compile};
+use std::io;
+use std::io::Write;
 
 fn wide(b: u8) -> u32
     ensures { result < 256 }
@@ -24,15 +26,15 @@ fn sum(bytes: &[u8]) -> u32
 }
 
 // A line with the length and the sum of the first n bytes of the output.
-pub fn put_sum(output: &[u8], n: usize, out: &mut [u8], at: usize) -> usize {
-    let m = put_text(out, at, b"length");
-    let m = put_number(out, m, n as u64);
-    let m = put_text(out, m, b" sum");
+pub fn put_sum<W: Write>(output: &[u8], n: usize, out: &mut W) -> io::Result<()> {
+    put_text(out, b"length")?;
+    put_number(out, n as u64)?;
+    put_text(out, b" sum")?;
     if output.len() < n {
-        return m;
+        return Ok(());
     }
-    let m = put_number(out, m, sum(&output[0..n]) as u64);
-    put(out, m, b'\n')
+    put_number(out, sum(&output[0..n]) as u64)?;
+    put(out, b'\n')
 }
 
 fn number_of(answer: Compiled) -> u32 {
@@ -65,28 +67,27 @@ fn with_words(file: &[u8], list: &mut [u32], output: &mut [u8], n: usize) -> u32
 
 // Of a file that compiles to n bytes: a line only where an output of n bytes does not suffice, one byte less is not refusal 12, or a list slice of 16,383
 // words is not 13.
-pub fn put_edges(
+pub fn put_edges<W: Write>(
     file: &[u8],
     list: &mut [u32],
     output: &mut [u8],
     n: usize,
-    out: &mut [u8],
-    at: usize,
-) -> usize {
+    out: &mut W,
+) -> io::Result<()> {
     if n == 0 {
-        return put_text(out, at, b"no bytes\n");
+        return put_text(out, b"no bytes\n");
     }
     let exact = with_bytes(file, list, output, n);
     let less = with_bytes(file, list, output, n - 1);
     let few = with_words(file, list, output, 16383);
     if exact != 0 {
-        return put_text(out, at, b"an exact output is refused\n");
+        return put_text(out, b"an exact output is refused\n");
     }
     if less != 12 {
-        return put_text(out, at, b"a short output is not 12\n");
+        return put_text(out, b"a short output is not 12\n");
     }
     if few != 13 {
-        return put_text(out, at, b"a short list slice is not 13\n");
+        return put_text(out, b"a short list slice is not 13\n");
     }
-    at
+    Ok(())
 }

@@ -5,124 +5,110 @@
 use crate::edges::{put_edges, put_sum};
 use listing_text::put_compiled;
 use listing_text::replay::put_line_name;
-use listing_text::text::{flush, put, put_bytes, put_number, put_refusal, put_text};
+use listing_text::text::{put, put_bytes, put_number, put_refusal, put_text};
 use rascal::{Compiled, compile};
+use std::io;
+use std::io::{BufWriter, Read, Write};
 use text_lines::find;
 
 mod edges;
 
 // A line with the first n bytes of the output.
-fn put_output(output: &[u8], n: usize, out: &mut [u8], at: usize) -> usize {
-    let m = put_text(out, at, b"bytes");
-    let m = put_number(out, m, n as u64);
-    let m = put(out, m, b' ');
+fn put_output<W: Write>(output: &[u8], n: usize, out: &mut W) -> io::Result<()> {
+    put_text(out, b"bytes")?;
+    put_number(out, n as u64)?;
+    put(out, b' ')?;
     if output.len() < n {
-        return m;
+        return Ok(());
     }
-    let m = put_bytes(out, m, &output[0..n]);
-    put(out, m, b'\n')
+    put_bytes(out, &output[0..n])?;
+    put(out, b'\n')
 }
 
 // The lists and the bytes of a script file; of more than 20,000 bytes only a sum.
-fn put_success(
+fn put_success<W: Write>(
     file: &[u8],
     list: &[u32],
     output: &[u8],
     n: usize,
-    out: &mut [u8],
-    at: usize,
-) -> usize {
+    out: &mut W,
+) -> io::Result<()> {
     if 20000 < n {
-        return put_sum(output, n, out, at);
+        return put_sum(output, n, out);
     }
-    let m = put_compiled(list, file, out, at);
-    put_output(output, n, out, m)
+    put_compiled(list, file, out)?;
+    put_output(output, n, out)
 }
 
 // What a script file compiles to, or its refusal.
-fn put_answer(
+fn put_answer<W: Write>(
     file: &[u8],
     list: &mut [u32],
     output: &mut [u8],
-    out: &mut [u8],
-    at: usize,
-) -> usize {
+    out: &mut W,
+) -> io::Result<()> {
     let answer = compile(file, list, output);
     match answer {
         Compiled::Bytes(n) => {
-            let m = put_success(file, list, output, n, out, at);
-            put_edges(file, list, output, n, out, m)
+            put_success(file, list, output, n, out)?;
+            put_edges(file, list, output, n, out)
         }
-        Compiled::Refused(number) => put_refusal(out, at, number),
+        Compiled::Refused(number) => put_refusal(out, number),
     }
 }
 
-fn put_line(
+fn put_line<W: Write>(
     line: &[u8],
     file: &mut [u8],
     list: &mut [u32],
     output: &mut [u8],
-    out: &mut [u8],
-    at: usize,
-) -> usize {
-    let l = put_line_name(line, file, out, at);
+    out: &mut W,
+) -> io::Result<()> {
+    let l = put_line_name(line, file, out)?;
     let n = l.bytes;
     if l.good {
-        return put_answer(&file[0..n], list, output, out, l.at);
+        return put_answer(&file[0..n], list, output, out);
     }
-    l.at
+    Ok(())
 }
 
-fn put_lines(
+fn put_lines<W: Write>(
     text: &[u8],
     file: &mut [u8],
     list: &mut [u32],
     output: &mut [u8],
-    out: &mut [u8],
-) -> usize {
-    let mut n = 0;
+    out: &mut W,
+) -> io::Result<()> {
     let mut at = 0;
     while at < text.len() {
         let end = find(text, at, b'\n');
-        n = put_line(&text[at..end], file, list, output, out, n);
+        put_line(&text[at..end], file, list, output, out)?;
         at = end + 1;
     }
-    n
+    Ok(())
 }
 
-// Reads the whole text, then answers its lines.
-fn read_and_answer(
-    text: &mut [u8],
+// Answers the lines of the whole text.
+fn answer_text<W: Write>(
+    text: &[u8],
     file: &mut [u8],
     list: &mut [u32],
     output: &mut [u8],
-    out: &mut [u8],
-) {
-    let n = io::read_full(0, text);
-    if n == text.len() {
-        io::write_all(1, b"the text is too long\n");
-        return;
+    out: &mut W,
+) -> io::Result<()> {
+    if text.len() == 2097152 {
+        return put_text(out, b"the text is too long\n");
     }
-    let at = put_lines(&text[..n], file, list, output, out);
-    flush(out, at);
+    put_lines(text, file, list, output, out)
 }
 
-// Takes the arrays lent, so that no proof computes with their zeros.
-fn run(
-    text: &mut [u8; 2097152],
-    file: &mut [u8; 1048832],
-    list: &mut [u32; 16384],
-    output: &mut [u8; 65536],
-    out: &mut [u8; 65536],
-) {
-    read_and_answer(text, file, list, output, out);
-}
-
-fn main() {
-    let mut text = [0u8; 2097152];
-    let mut file = [0u8; 1048832];
-    let mut list = [0u32; 16384];
-    let mut output = [0u8; 65536];
-    let mut out = [0u8; 65536];
-    run(&mut text, &mut file, &mut list, &mut output, &mut out);
+fn main(rt: HostRuntime) -> io::Result<()> {
+    let mut text = Vec::new(rt.alloc());
+    rt.stdin().take(2097152).read_to_end(&mut text)?;
+    let mut file = vec![in rt.alloc(); 0u8; 1048832]?;
+    let mut list = vec![in rt.alloc(); 0u32; 16384]?;
+    let mut output = vec![in rt.alloc(); 0u8; 65536]?;
+    let mut out = BufWriter::with_capacity(rt.alloc(), 65536, rt.stdout())?;
+    answer_text(&text, &mut file, &mut list, &mut output, &mut out)?;
+    out.flush()
 }

@@ -7,12 +7,12 @@ module _ {A B : Type 0} (f : A → B) where
   pub map_count : (t : Forest A) → count (map_forest f t) ≡ count t
   unfolding map_forest count
   map_count none = refl
-  map_count (more before r kids) = rw (map_count before, map_count kids)
+  map_count (more before r kids) = simp (map_count before, map_count kids)
 
   pub map_depth : (t : Forest A) → depth (map_forest f t) ≡ depth t
   unfolding map_forest depth
   map_depth none = refl
-  map_depth (more before r kids) = rw (map_depth before, map_depth kids)
+  map_depth (more before r kids) = simp (map_depth before, map_depth kids)
 
 -- a chain of three records has depth 3, three records in a row have depth 1
 abbrev pub chain : Forest ℕ

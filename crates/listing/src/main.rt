@@ -2,43 +2,43 @@
 
 // Prints the listing of the script file on standard input, or its refusal.
 use listing_text::put_compiled;
-use listing_text::text::{flush, put_refusal};
+use listing_text::text::put_refusal;
 use rascal::{Compiled, compile};
+use std::io;
+use std::io::{BufWriter, Read, Write};
 
-fn put_listing(file: &[u8], list: &mut [u32], output: &mut [u8], out: &mut [u8]) -> usize {
+fn put_listing<W: Write>(
+    file: &[u8],
+    list: &mut [u32],
+    output: &mut [u8],
+    out: &mut W,
+) -> io::Result<()> {
     let answer = compile(file, list, output);
     match answer {
-        Compiled::Bytes(_) => put_compiled(list, file, out, 0),
-        Compiled::Refused(number) => put_refusal(out, 0, number),
+        Compiled::Bytes(_) => put_compiled(list, file, out),
+        Compiled::Refused(number) => put_refusal(out, number),
     }
 }
 
-// `file` has room for one byte more than a file may have.
-fn read_and_list(file: &mut [u8], list: &mut [u32], output: &mut [u8], out: &mut [u8]) {
-    let n = io::read_full(0, file);
-    if n == file.len() {
-        let at = put_refusal(out, 0, 4);
-        flush(out, at);
-        return;
+// So much as one byte more than a file may have is refused by its length.
+fn list_file<W: Write>(
+    file: &[u8],
+    list: &mut [u32],
+    output: &mut [u8],
+    out: &mut W,
+) -> io::Result<()> {
+    if file.len() == 65537 {
+        return put_refusal(out, 4);
     }
-    let at = put_listing(&file[..n], list, output, out);
-    flush(out, at);
+    put_listing(file, list, output, out)
 }
 
-// Takes the arrays lent, so that no proof computes with their zeros.
-fn run(
-    file: &mut [u8; 65537],
-    list: &mut [u32; 16384],
-    output: &mut [u8; 65536],
-    out: &mut [u8; 65536],
-) {
-    read_and_list(file, list, output, out);
-}
-
-fn main() {
-    let mut file = [0u8; 65537];
-    let mut list = [0u32; 16384];
-    let mut output = [0u8; 65536];
-    let mut out = [0u8; 65536];
-    run(&mut file, &mut list, &mut output, &mut out);
+fn main(rt: HostRuntime) -> io::Result<()> {
+    let mut file = Vec::new(rt.alloc());
+    rt.stdin().take(65537).read_to_end(&mut file)?;
+    let mut list = vec![in rt.alloc(); 0u32; 16384]?;
+    let mut output = vec![in rt.alloc(); 0u8; 65536]?;
+    let mut out = BufWriter::with_capacity(rt.alloc(), 65536, rt.stdout())?;
+    list_file(&file, &mut list, &mut output, &mut out)?;
+    out.flush()
 }

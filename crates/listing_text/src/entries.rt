@@ -9,7 +9,7 @@ const POOL: usize = 14336;
 
 const POOL_END: usize = 16384;
 
-#[derive(Drop)]
+#[derive(Clone, Copy)]
 pub struct Entry {
     pub code: u32,
     pub first: u32,

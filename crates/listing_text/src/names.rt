@@ -1,6 +1,8 @@
 // The actions' names, as in the Rust's `Action`.
 use crate::source::wide;
 use crate::text::put;
+use std::io;
+use std::io::Write;
 
 // Each row is an action's code and its name, filled up with zeros. A Push and a function have no code of their own in the list slice.
 const NAMES: [[u8; 16]; 81] = [
@@ -112,17 +114,16 @@ fn row_of(code: u32) -> usize {
     i
 }
 
-pub fn put_name(out: &mut [u8], at: usize, code: u32) -> usize {
+pub fn put_name<W: Write>(out: &mut W, code: u32) -> io::Result<()> {
     let row = row_of(code);
-    let mut n = at;
     let mut k = 1;
     while k < 16 {
         let c = letter(row, k);
         if c == 0 {
-            return n;
+            return Ok(());
         }
-        n = put(out, n, c);
+        put(out, c)?;
         k += 1;
     }
-    n
+    Ok(())
 }

@@ -8,14 +8,14 @@ use script_records::part::{Part, last_tree};
 use text_lines::find;
 
 // Read lists refer to action bytes, and compiled ones to a script file of this layout.
-#[derive(Drop)]
+#[derive(Clone, Copy)]
 pub struct Source {
     pub read: bool,
     pub layout: Layout,
 }
 
 // A string's or a parameter's reference, and where the one after it is found.
-#[derive(Drop)]
+#[derive(Clone, Copy)]
 pub struct Item {
     pub name: usize,
     pub register: u32,
@@ -23,7 +23,7 @@ pub struct Item {
 }
 
 // So many items from here on.
-#[derive(Drop)]
+#[derive(Clone, Copy)]
 pub struct Items {
     pub at: usize,
     pub count: usize,

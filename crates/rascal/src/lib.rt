@@ -13,8 +13,6 @@ use action_writer::{Written, write};
 use as2_codegen::{Lowered, script_to_actions};
 use zeros::{clear_bytes, clear_words};
 
-pub mod exports;
-
 // How many bytes were written, or the refusal.
 #[derive(Clone, Copy)]
 pub enum Compiled {

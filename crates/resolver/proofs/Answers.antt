@@ -2,13 +2,13 @@
 use Prim.Native.Nat.{ℕ, zero, suc, ◌+◌, ◌-◌, ◌≤◌, ◌<◌}
 use mathlib.Core.Path.{◌≡◌, refl, sym, ap, ap₂, ◌∙◌, subst}
 use mathlib.Core.List.{List, [], ◌∷◌, ◌++◌, map, reverse, append-nil}
-use mathlib.Core.Bool.{Bool, true, false, cond, ◌&&◌, true≢false}
+use mathlib.Core.Bool.{Bool, true, false, ◌&&◌, true≢false}
 use mathlib.Core.Option.{some}
 use native.Mathlib.Omega.{arith}
 use native.Mathlib.Nat.{zero-add}
 use native.Mathlib.Decide.{dec_lt}
-use lib.Dec.{T, eqb}
-use lib.ListN.{length, get_or, get_elem?, length-append, length-map, get_or-eq_default}
+use lib.Dec.{T}
+use lib.ListN.{length, get_or, get_elem?, length-map, get_or-eq_default}
 use borrow.Author.Tests.{eq-eqb, ne_eqb}
 use Rattle.pcode.specs.Pcode.{Branching, Action, Item, plain, push, branch, define, action, mark}
 use Rattle.script.specs.Write.{Bytes}
@@ -17,8 +17,7 @@ use Rattle.action_format.specs.ByPlace.{actions, place_of_label, rebranch, items
 use Rattle.action_format.specs.Lists.{Lists, all_lists, all}
 use Rattle.action_format.specs.Strings.{strings, no_zero, zero_free}
 use Rattle.action_format.specs.Code.{code}
-use Rattle.action_format.specs.Offsets.{sizes, position, offset, reaches, all_near}
-use Rattle.action_format.specs.Encode as action_format
+use Rattle.action_format.specs.Offsets.{sizes, position, offset, all_near}
 use Rattle.action_format.specs.Encode.{short, encode}
 use Rattle.action_format.specs.ByList.{list_of, body, body_bytes, begins, action_short, action_near}
 use Rattle.action_format.proofs.Tests.{All, is_true, all_at, all_true, true_all, elem, never, some_of}
@@ -28,11 +27,11 @@ use Rattle.definition.specs.Outcome.{by_place}
 use Rattle.definition.specs.Demand3.{list_at}
 use Rattle.resolver.specs.declared.Answer.{Answer}
 use Rattle.resolver.specs.Lowered.{Lowered}
-use Rattle.resolver.specs.Walk.{count_of, end_of, start_of, index_of, list_from, list_end, piece_at, walked}
-use Rattle.resolver.specs.Sizes.{size_of, measures, short_of, all_short, all_clear}
+use Rattle.resolver.specs.Walk.{count_of, index_of, list_from, list_end, piece_at}
+use Rattle.resolver.specs.Sizes.{short_of, all_short, all_clear}
 use Rattle.resolver.specs.Steps.{near_item, all_near_in}
 use Rattle.resolver.specs.Passes.{walked_at, number_at, sizes_at, near_list, nearLists, Done, too_long, too_far, resolved, clear_lists, Answered, zero_byte, passed}
-use Rattle.resolver.specs.Resolved.{place_at, Tables, Resolved, Resolves, refused, good}
+use Rattle.resolver.specs.Resolved.{place_at, Tables, Resolves, refused, good}
 use Rattle.resolver.proofs.Whole.{split, lists_count, walked_list}
 use Rattle.resolver.proofs.Stand.{list_by_place}
 use Rattle.resolver.proofs.Sizing.{actions_reverse, actions_append, reverse_more, body_sizes, lists, rules, body_of, sizes_at_lem, sized}

@@ -1,28 +1,27 @@
 -- The data of an entry is that of its piece.
-use Prim.Native.Nat.{ℕ, zero, suc, ◌+◌, ◌-◌, ◌*◌, ◌%◌, ◌/◌, ◌^◌, ◌≤◌, ◌<◌}
+use Prim.Native.Nat.{ℕ, ◌+◌, ◌*◌, ◌≤◌, ◌<◌}
 use mathlib.Core.Path.{◌≡◌, refl, sym, ap, ap₂, ◌∙◌, subst}
-use mathlib.Core.List.{List, [], ◌∷◌, map}
+use mathlib.Core.List.{List, map}
 use mathlib.Core.Bool.{Bool, true, false, cond, ◌&&◌}
 use native.Mathlib.Omega.{arith}
-use lib.Dec.{T, ltb, eqb, leb}
+use lib.Dec.{T, ltb, leb}
 use lib.ListN.{length, get_or, take, length-append}
-use borrow.Author.Tests.{ltb-true, ltb-false, lt-ltb, le-ltb, eqb-true, ne_eqb, lt-leb, le-leb}
+use borrow.Author.Tests.{ltb-true, ltb-false, lt-ltb, ne_eqb, lt-leb, le-leb}
 use Rattle.pcode.specs.declared.Op.{Op}
-use Rattle.pcode.specs.Pcode.{Branching, Jump, If, Value, Plain, row_of}
+use Rattle.pcode.specs.Pcode.{Jump, If, Plain, row_of}
 use Rattle.lowering.specs.Builder.{limits01}
 use Rattle.action_format.specs.Lists.{all}
-use Rattle.action_format.specs.Bytes.{word, zero_ended, join, value_bytes, constant_bytes, plain_data, data_of_header}
-use Rattle.action_format.specs.Strings.{no_zero, header_strings}
-use Rattle.list_slice.specs.Entry.{Entry, entry, Pushed, Piece, Null, Undefined, Boolean, String, Register, Float, Integer, Constant, op, ConstantPool, StoreRegister, GotoFrame, GotoLabel, GotoFrame2, branch, function, mark, value, entry_of}
+use Rattle.action_format.specs.Bytes.{word, zero_ended, value_bytes, constant_bytes, plain_data}
+use Rattle.action_format.specs.Strings.{no_zero}
+use Rattle.list_slice.specs.Entry.{Entry, Piece, Null, Undefined, Boolean, String, Register, Float, Integer, Constant, op, ConstantPool, StoreRegister, GotoFrame, GotoLabel, GotoFrame2, branch, function, mark, value, entry_of}
 use Rattle.list_slice.specs.Words.{entry_at, pool_in}
 use Rattle.list_slice.specs.Items.{value_of}
-use Rattle.list_slice.specs.File.{text_in, header_in, names_function}
+use Rattle.list_slice.specs.File.{text_in}
 use Rattle.list_slice.specs.Compiled.{piece_named}
-use Rattle.resolver.specs.declared.text.Text.{Text}
 use Rattle.resolver.specs.declared.text.Data.{Data}
 use Rattle.resolver.specs.Walk.{piece_at, references_in}
 use Rattle.resolver.specs.Sizes.{piece_data, piece_clear}
-use Rattle.resolver.specs.Texts.{data_of, texts_of, string_data, pool_data, constant_data, fixed_data, kind_of, data_in, Operands, entry_data, Operand, Known}
+use Rattle.resolver.specs.Texts.{data_of, string_data, pool_data, constant_data, fixed_data, kind_of, data_in, Operands, entry_data, Operand, Known}
 use Rattle.resolver.proofs.OpCodes.{op_code, OpCode, op_says}
 use Rattle.resolver.proofs.Texts.{join_size, texts_clear}
 

@@ -1,10 +1,10 @@
 -- What an entry adds to the items before it: actions, bytes, tests and marks.
-use Prim.Native.Nat.{ℕ, zero, suc, ◌+◌, ◌-◌, ◌*◌, ◌≤◌, ◌<◌}
-use mathlib.Core.Path.{◌≡◌, refl, sym, ap, ap₂, ◌∙◌, subst}
-use mathlib.Core.List.{List, [], ◌∷◌, ◌++◌, append_assoc}
+use Prim.Native.Nat.{ℕ, suc, ◌+◌, ◌-◌, ◌≤◌, ◌<◌}
+use mathlib.Core.Path.{◌≡◌, refl, sym, ap, ap₂, ◌∙◌}
+use mathlib.Core.List.{List, [], ◌∷◌, ◌++◌}
 use mathlib.Core.Bool.{Bool, true, false, cond, ◌&&◌, true≢false}
 use native.Mathlib.Omega.{arith}
-use lib.Dec.{T, ltb, leb, eqb}
+use lib.Dec.{ltb, leb, eqb}
 use lib.ListN.{length, length-append}
 use borrow.Author.Tests.{lt-ltb, le-ltb, ltb-true, ltb-false, ne_eqb, le-leb, lt-leb, leb-true, leb-false}
 use Rattle.pcode.specs.declared.Op.{Op}
@@ -12,7 +12,7 @@ use Rattle.pcode.specs.Pcode.{Header, DefineFunction, DefineFunction2, Value, Pl
 use Rattle.hir.specs.Hir.{Str}
 use Rattle.action_format.specs.ByPlace.{actions}
 use Rattle.action_format.specs.Lists.{all, simple, pushing}
-use Rattle.action_format.specs.Strings.{no_zero, value_strings, values_strings, strings}
+use Rattle.action_format.specs.Strings.{no_zero, value_strings, values_strings}
 use Rattle.action_format.specs.Bytes.{word, join, framed, value_bytes, single_data, single_bytes, data_of_header, header_bytes}
 use Rattle.action_format.specs.Offsets.{sum}
 use Rattle.script.proofs.WrittenRows.{second}
@@ -21,8 +21,8 @@ use Rattle.list_slice.specs.Entry.{Pushed, Piece, Null, Undefined, Boolean, Stri
 use Rattle.list_slice.specs.Items.{References, value_of, extended, added}
 use Rattle.resolver.specs.declared.walk.Walk.{Walk}
 use Rattle.resolver.specs.Sizes.{piece_data, piece_clear, size_of, measures, short_of, all_short, all_clear}
-use Rattle.resolver.specs.Steps.{Fine, frame, walk, too_long, begun, joined, stepped, piece_body, adds, spots}
-use Rattle.resolver.proofs.OpCodes.{op_code, OpCode, op_says}
+use Rattle.resolver.specs.Steps.{Fine, frame, too_long, begun, joined, stepped, piece_body, adds, spots}
+use Rattle.resolver.proofs.OpCodes.{op_code, op_says}
 
 -- a later value stands after a Push that has one
 pub data Pushes : List Item → Type 0 where

@@ -1,8 +1,8 @@
 -- The passes over all lists.
 use Prim.Native.Nat.{ℕ, zero, suc, ◌+◌, ◌-◌, ◌≤◌, ◌<◌}
 use mathlib.Core.Path.{◌≡◌, refl, sym, ap, ◌∙◌, subst}
-use mathlib.Core.Logic.{◌⊎◌, inl, inr}
-use mathlib.Core.List.{List, [], ◌∷◌, ◌++◌}
+use mathlib.Core.Logic.{inl}
+use mathlib.Core.List.{List, [], ◌∷◌}
 use mathlib.Core.Bool.{Bool, true, false, cond, ◌&&◌, true≢false}
 use native.Mathlib.Omega.{arith}
 use native.Mathlib.Numerals.{add-one}
@@ -10,7 +10,7 @@ use native.Mathlib.Decide.{dec_lt}
 use lib.Dec.{eqb}
 use lib.ListN.{length, get_or, set, length-append, length-set}
 use lib.Seq.{get_or-set_same, get_or-set_other}
-use borrow.Author.Tests.{eq-eqb, ne_eqb, eqb-true, eqb-false}
+use borrow.Author.Tests.{ne_eqb, eqb-false}
 use Rattle.pcode.specs.Pcode.{Branching, Item, action, mark}
 use Rattle.action_format.specs.ByPlace.{actions}
 use Rattle.action_format.specs.Offsets.{sum, position, offset}
@@ -20,7 +20,7 @@ use Rattle.resolver.specs.declared.passes.Step.{Step}
 use Rattle.resolver.specs.Walk.{count_of, end_of, start_of, piece_at, walked}
 use Rattle.resolver.specs.Sizes.{size_of, measures, all_short, all_clear}
 use Rattle.resolver.specs.Steps.{Standing, bodies, Measured, Walked, spots, Placed, all_near_in, ReadyList, Offsets}
-use Rattle.resolver.specs.Passes.{walked_at, number_at, Stands, Sized, sizes_at, near_list, nearLists, ListDone, Tried, SizesTo, Done, Passed, too_long, too_far, resolved, clear_lists, Answered, zero_byte, passed}
+use Rattle.resolver.specs.Passes.{walked_at, number_at, Stands, Sized, sizes_at, nearLists, ListDone, Tried, SizesTo, Done, Passed, too_long, too_far, resolved, clear_lists, Answered, zero_byte, passed}
 
 pub measures_length : (B : ℕ → ℕ) (is : List Item) → length (measures B is) ≡ length (actions is)
 unfolding measures

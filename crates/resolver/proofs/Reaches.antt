@@ -1,26 +1,26 @@
 -- The offsets of a list's branches.
-use Prim.Native.Nat.{ℕ, zero, suc, ◌+◌, ◌-◌, ◌*◌, ◌%◌, ◌≤◌, ◌<◌}
+use Prim.Native.Nat.{ℕ, zero, suc, ◌+◌, ◌-◌, ◌*◌, ◌≤◌, ◌<◌}
 use mathlib.Core.Path.{◌≡◌, refl, sym, ap, ◌∙◌, subst}
 use mathlib.Core.Logic.{◌⊎◌, inl, inr}
-use mathlib.Core.List.{List, [], ◌∷◌}
-use mathlib.Core.Bool.{Bool, true, false, cond, ◌&&◌, ◌||◌}
+use mathlib.Core.List.{List, ◌∷◌}
+use mathlib.Core.Bool.{Bool, true, false, cond, ◌&&◌}
 use native.Mathlib.Omega.{arith}
 use native.Mathlib.Numerals.{add-one}
 use lib.Dec.{eqb}
-use lib.ListN.{length, get_or, set, length-set, get_or-eq_default}
+use lib.ListN.{length, get_or, set, length-set}
 use lib.Seq.{get_or-set_same, get_or-set_other}
 use borrow.Author.Tests.{ne_eqb, eqb-true, eqb-false}
-use Rattle.pcode.specs.Pcode.{Branching, Jump, If, Value, Item, action, push, branch, row_of}
+use Rattle.pcode.specs.Pcode.{Branching, Jump, If, Value, Item, action, branch, row_of}
 use Rattle.action_format.specs.ByPlace.{actions}
 use Rattle.action_format.specs.Offsets.{position, offset, reaches}
 use Rattle.action_format.proofs.Tests.{All}
-use Rattle.list_slice.specs.Entry.{Pushed, Piece, Null, Undefined, Boolean, String, Register, Float, Integer, Constant, value, Entry, entry_of}
+use Rattle.list_slice.specs.Entry.{Piece, Null, Undefined, Boolean, String, Register, Float, Integer, Constant, value, Entry, entry_of}
 use Rattle.list_slice.specs.Words.{entry_at}
 use Rattle.list_slice.specs.Items.{References, value_of, extended, added}
 use Rattle.resolver.specs.Walk.{piece_at, references_in, walked}
 use Rattle.resolver.specs.Texts.{Known}
-use Rattle.resolver.specs.Steps.{Fine, Standing, adds, is_branch, after_at, target_at, offsets_at, near_at, near_item, all_near_in, ReadyList, Offsets}
-use Rattle.resolver.proofs.OpCodes.{op_code, OpCode, op_says}
+use Rattle.resolver.specs.Steps.{Fine, Standing, adds, is_branch, after_at, target_at, offsets_at, near_at, all_near_in, ReadyList, Offsets}
+use Rattle.resolver.proofs.OpCodes.{op_code, op_says}
 use Rattle.resolver.proofs.Items.{later_pushes, Pushes, pushes, adds_law}
 use Rattle.resolver.proofs.Walking.{walked_more, walked_none, fine_next, At, at_start, at_again, adds_one}
 

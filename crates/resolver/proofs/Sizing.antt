@@ -2,14 +2,14 @@
 use Prim.Native.Nat.{ℕ, zero, suc, ◌+◌, ◌-◌, ◌≤◌, ◌<◌}
 use mathlib.Core.Path.{◌≡◌, refl, sym, ap, ap₂, ◌∙◌, subst}
 use mathlib.Core.List.{List, [], ◌∷◌, ◌++◌, map, reverse, reverse_aux, append_assoc, append-nil, reverse-append, reverse-reverse}
-use mathlib.Core.Bool.{Bool, true, false, cond, ◌&&◌}
+use mathlib.Core.Bool.{Bool, true, false, cond}
 use mathlib.Core.Option.{some}
 use native.Mathlib.Omega.{arith}
 use native.Mathlib.Nat.{zero-add}
-use lib.Dec.{T, eqb}
+use lib.Dec.{eqb}
 use lib.ListN.{length, get_or, get_elem?, length-append, length-map}
 use lib.Seq.{take_all}
-use borrow.Author.Tests.{eqb-true, eqb-false, eq-eqb, ne_eqb}
+use borrow.Author.Tests.{eqb-true, eqb-false}
 use Rattle.pcode.specs.Pcode.{Header, Branching, Jump, If, Action, Item, plain, push, branch, define, action, mark, Value}
 use Rattle.script.specs.Write.{Bytes}
 use Rattle.lowering.specs.Builder.{limits01}
@@ -19,15 +19,14 @@ use Rattle.lowering.proofs.Theorems.Facts.{Closed}
 use Rattle.lowering.proofs.Theorems.{branches_land}
 use Rattle.action_format.specs.ByPlace.{actions, marked, place_of_label, rebranch, items_by_place}
 use Rattle.action_format.specs.Lists.{Lists, Single, simple, pushing, branching, single, Numbered, stop, one, function}
-use Rattle.action_format.specs.Rules.{OfLowering}
-use Rattle.action_format.specs.Code.{Code, nest_list, nest, code}
+use Rattle.action_format.specs.Code.{Code, nest_list, nest}
 use Rattle.action_format.specs.Bytes.{word, single_bytes, header_bytes, code_bytes}
 use Rattle.action_format.specs.Offsets.{sizes, sum, position}
-use Rattle.action_format.specs.ByList.{list_of, body, body_bytes, begins}
+use Rattle.action_format.specs.ByList.{list_of, body, body_bytes}
 use Rattle.action_format.proofs.Tests.{All}
 use Rattle.action_format.proofs.ByPlace.{marked_once, place_inside}
 use Rattle.action_format.proofs.Offsets.{same_length}
-use Rattle.action_format.proofs.Finished.{same_depth, Finished, finished, Named}
+use Rattle.action_format.proofs.Finished.{same_depth, finished, Named}
 use Rattle.action_format.proofs.Landing.{inner, are_named, same_body, end_begins}
 use Rattle.list_slice.specs.Entry.{Piece, value}
 use Rattle.list_slice.specs.Items.{References, value_of, extended, added}

@@ -1,31 +1,29 @@
 -- The walks through a list.
 use Prim.Native.Nat.{ℕ, zero, suc, ◌+◌, ◌-◌, ◌*◌, ◌≤◌, ◌<◌}
 use mathlib.Core.Path.{◌≡◌, refl, sym, ap, ◌∙◌, subst}
-use mathlib.Core.List.{List, [], ◌∷◌, ◌++◌, map}
+use mathlib.Core.List.{List, [], ◌∷◌, ◌++◌}
 use mathlib.Core.Bool.{Bool, true, false, cond, ◌&&◌, true≢false}
 use native.Mathlib.Omega.{arith}
 use native.Mathlib.Nat.{not-suc-le-zero}
 use native.Mathlib.Decide.{dec_lt}
-use lib.Dec.{T, ltb, leb, eqb}
-use lib.ListN.{length, get_or, set, take, length-append, length-set, get_or-eq_default}
+use lib.Dec.{ltb, leb, eqb}
+use lib.ListN.{length, get_or, set, length-append, length-set, get_or-eq_default}
 use lib.Seq.{take-append-le, take-append_seam, take_all, get_or-set_same, get_or-set_other}
-use borrow.Author.Tests.{eq-eqb, ne_eqb, eqb-true, eqb-false, lt-ltb, le-ltb, ltb-true, ltb-false, leb-true}
-use Rattle.pcode.specs.declared.Op.{Op}
-use Rattle.pcode.specs.Pcode.{Item, mark, row_of, Jump, If}
-use Rattle.lowering.specs.Builder.{limits01}
+use borrow.Author.Tests.{ne_eqb, eqb-true, eqb-false, ltb-false, leb-true}
+use Rattle.pcode.specs.Pcode.{Item, row_of, Jump, If}
 use Rattle.action_format.specs.ByPlace.{actions}
 use Rattle.action_format.specs.Offsets.{sum, position}
 use Rattle.action_format.proofs.Tests.{All}
-use Rattle.list_slice.specs.Entry.{Pushed, Piece, Null, Undefined, Boolean, String, Register, Float, Integer, Constant, value, Entry, entry_of, piece_of}
+use Rattle.list_slice.specs.Entry.{Piece, Null, Undefined, Boolean, String, Register, Float, Integer, Constant, value, Entry, entry_of}
 use Rattle.list_slice.specs.Words.{entry_at, run}
 use Rattle.list_slice.specs.Items.{References, added, gathered}
 use Rattle.resolver.specs.declared.walk.Walk.{Walk}
 use Rattle.resolver.specs.declared.text.Data.{Data}
 use Rattle.resolver.specs.Walk.{piece_at, references_in, walked}
-use Rattle.resolver.specs.Sizes.{piece_data, piece_clear, measures, all_short, all_clear}
+use Rattle.resolver.specs.Sizes.{piece_data, measures, all_short, all_clear}
 use Rattle.resolver.specs.Texts.{Known, entry_data}
-use Rattle.resolver.specs.Steps.{Fine, Standing, frame, walk, begun, joined, too_long, stepped, Room, bodies, piece_body, stepped_at, Measured, Walked, adds, spots, Placed, placed, marked_at}
-use Rattle.resolver.proofs.OpCodes.{op_code, OpCode, op_says}
+use Rattle.resolver.specs.Steps.{Fine, Standing, walk, begun, joined, too_long, stepped, Room, bodies, piece_body, stepped_at, Measured, Walked, adds, spots, Placed, placed, marked_at}
+use Rattle.resolver.proofs.OpCodes.{op_code, op_says}
 use Rattle.resolver.proofs.Entries.{entry_piece}
 use Rattle.resolver.proofs.Items.{fine_before, Counts, Stepped, step_law, Grows, same, more, last, grows, short_before, adds_law, Marks, marks, other, marks_law, clear_law, frame_small}
 

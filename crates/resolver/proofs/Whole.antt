@@ -1,33 +1,27 @@
 -- What lowering's lists give the walks: each list stands between its ends, and says the list of its number.
-use Prim.Native.Nat.{ℕ, zero, suc, ◌+◌, ◌-◌, ◌*◌, ◌≤◌, ◌<◌}
+use Prim.Native.Nat.{ℕ, zero, suc, ◌+◌, ◌-◌, ◌≤◌, ◌<◌}
 use mathlib.Core.Path.{◌≡◌, refl, sym, ap, ◌∙◌, subst}
-use mathlib.Core.List.{List, [], ◌∷◌, ◌++◌, map, reverse, reverse-append, reverse-reverse}
-use mathlib.Core.Bool.{Bool, true, false, cond, ◌&&◌}
+use mathlib.Core.List.{List, [], ◌∷◌, ◌++◌, map, reverse, reverse-reverse}
 use native.Mathlib.Omega.{arith}
 use native.Mathlib.Numerals.{add-one}
 use native.Mathlib.Decide.{dec_lt}
-use lib.Dec.{T, eqb}
-use lib.ListN.{length, get_or, take, drop, length-append, get_or-append, get_or-map, length-map}
+use lib.ListN.{length, get_or, drop, length-append, get_or-append, get_or-map, length-map}
 use lib.Seq.{get_or-take, get_or-drop, get_or-append_seam}
 use borrow.Author.Tests.{eq-eqb, ne_eqb}
-use Rattle.pcode.specs.Pcode.{Item, action, mark}
+use Rattle.pcode.specs.Pcode.{Item}
 use Rattle.lowering.specs.Builder.{limits01}
 use Rattle.lowering.proofs.Theorems.{top_first}
-use Rattle.action_format.specs.Lists.{all}
-use Rattle.action_format.proofs.Tests.{All, and_first, and_second, all_true}
-use Rattle.list_slice.specs.Entry.{Entry, Piece, entry_of, entries_of, piece_of, ConstantPool}
-use Rattle.list_slice.specs.Words.{area, joined, ends_from, slice_words, entry_at, run, cut, keep, trimmed, ends_in, pool_in, entries_in, Fits}
-use Rattle.list_slice.specs.Items.{References, gathered, items_of}
-use Rattle.list_slice.specs.File.{in_file}
-use Rattle.list_slice.specs.Compiled.{finishing, numbered, label_words, piece_named, pool_count, Holds, lists_in}
+use Rattle.list_slice.specs.Entry.{Entry, Piece, entries_of, piece_of}
+use Rattle.list_slice.specs.Words.{area, joined, ends_from, run, cut, keep, trimmed, ends_in, entries_in}
+use Rattle.list_slice.specs.Items.{gathered, items_of}
+use Rattle.list_slice.specs.Compiled.{finishing, numbered, label_words, lists_in}
 use Rattle.list_slice.proofs.Areas.{ends_in_lem}
 use Rattle.list_slice.proofs.Parse.{recovered}
-use Rattle.list_slice.proofs.Pieces.{piece_back}
 use Rattle.list_slice.proofs.Determined.{numbered_finishing, read_back}
 use Rattle.definition.specs.Compile.{statements_of}
 use Rattle.definition.specs.Demand3.{list_at}
 use Rattle.resolver.specs.Lowered.{Lowered}
-use Rattle.resolver.specs.Walk.{count_of, end_of, start_of, piece_at, references_in, walked}
+use Rattle.resolver.specs.Walk.{count_of, end_of, start_of, references_in, walked}
 use Rattle.resolver.specs.Passes.{walked_at, number_at}
 
 -- where the list at place j begins, by the ends

@@ -1,8 +1,7 @@
 -- What the tables hold when no list is refused.
-use Rattle.std.specs.Prelude.{ℕ, zero, suc, ◌-◌, ◌≤◌, ◌<◌, ◌≡◌, List, T, length, get_or}
+use Rattle.std.specs.Prelude.{ℕ, suc, ◌-◌, ◌≤◌, ◌<◌, ◌≡◌, List, T, length, get_or}
 use Rattle.pcode.specs.Pcode.{Branching, Item}
 use Rattle.action_format.specs.ByPlace.{actions, place_of_label}
-use Rattle.action_format.specs.Lists.{Lists}
 use Rattle.action_format.specs.Strings.{zero_free}
 use Rattle.action_format.specs.Code.{code}
 use Rattle.action_format.specs.Offsets.{offset, all_near}

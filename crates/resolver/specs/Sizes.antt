@@ -1,10 +1,10 @@
 -- How many bytes pieces and items take, and which of their strings have a zero byte.
-use Rattle.std.specs.Prelude.{ℕ, zero, suc, ◌+◌, List, [], ◌∷◌, ◌++◌, Bool, true, false, ◌&&◌, leb, length}
-use Rattle.pcode.specs.Pcode.{Plain, Action, Item, plain, push, branch, define, action, mark, row_of}
+use Rattle.std.specs.Prelude.{ℕ, ◌+◌, List, [], ◌∷◌, ◌++◌, Bool, true, ◌&&◌, leb, length}
+use Rattle.pcode.specs.Pcode.{Plain, Action, Item, plain, push, branch, define, action, mark}
 use Rattle.action_format.specs.Lists.{all, simple, pushing}
-use Rattle.action_format.specs.Strings.{value_strings, plain_strings, header_strings, strings, no_zero}
+use Rattle.action_format.specs.Strings.{value_strings, header_strings, strings, no_zero}
 use Rattle.action_format.specs.Bytes.{value_bytes, plain_data, single_data, single_bytes, data_of_header, header_bytes}
-use Rattle.list_slice.specs.Entry.{Pushed, Piece}
+use Rattle.list_slice.specs.Entry.{Piece}
 use Rattle.list_slice.specs.Items.{References, value_of}
 
 -- the data bytes that a piece adds to a record: a value of a Push its own, a function's header all but its body

@@ -1,16 +1,15 @@
 -- The walk through a list, entry by entry.
-use Rattle.std.specs.Prelude.{ℕ, zero, suc, ◌+◌, ◌-◌, ◌*◌, ◌≤◌, ◌<◌, ◌≡◌, ◌⊎◌, List, [], ◌∷◌, ◌++◌, map, Bool, true, false, cond, ◌&&◌, ◌||◌, T, leb, ltb, eqb, length, get_or, set}
+use Rattle.std.specs.Prelude.{ℕ, suc, ◌+◌, ◌-◌, ◌≤◌, ◌<◌, ◌≡◌, ◌⊎◌, List, [], ◌∷◌, Bool, true, false, cond, ◌&&◌, ◌||◌, leb, ltb, eqb, length, get_or, set}
 use Rattle.pcode.specs.Pcode.{Branching, Action, Item, plain, push, branch, define, action, mark}
-use Rattle.script_records.specs.declared.layout.Layout.{Layout}
 use Rattle.action_format.specs.ByPlace.{actions}
 use Rattle.action_format.specs.Offsets.{sum, position, offset, reaches}
 use Rattle.action_format.proofs.Tests.{All}
-use Rattle.list_slice.specs.Entry.{Piece, Entry, entry_of}
+use Rattle.list_slice.specs.Entry.{Piece}
 use Rattle.list_slice.specs.Words.{entry_at}
 use Rattle.resolver.specs.declared.walk.Walk.{Walk}
 use Rattle.resolver.specs.Walk.{piece_at, references_in, walked}
-use Rattle.resolver.specs.Sizes.{piece_data, measures, all_short, all_clear}
-use Rattle.resolver.specs.Texts.{Ready, Known}
+use Rattle.resolver.specs.Sizes.{piece_data, measures, all_short}
+use Rattle.resolver.specs.Texts.{Known}
 
 -- items of a list as lowering makes them: no empty Push, labels and list numbers within the tables
 abbrev pub Fine : Item → Type 0

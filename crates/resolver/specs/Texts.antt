@@ -1,11 +1,10 @@
 -- The data bytes of entries, by their words.
-use Rattle.std.specs.Prelude.{ℕ, zero, suc, ◌+◌, ◌-◌, ◌*◌, ◌%◌, ◌≤◌, ◌<◌, ◌≡◌, List, [], ◌∷◌, map, Bool, true, false, cond, ◌&&◌, T, leb, ltb, eqb, length, take}
+use Rattle.std.specs.Prelude.{ℕ, ◌+◌, ◌-◌, ◌*◌, ◌≤◌, ◌<◌, ◌≡◌, List, [], ◌∷◌, map, Bool, true, cond, ◌&&◌, T, ltb, eqb, length, take}
 use Rattle.hir.specs.Hir.{Str}
 use Rattle.hir.specs.declared.Record.{Record}
 use Rattle.hir.specs.declared.Record.TheVariants as kind
 use Rattle.pcode.specs.Pcode.{Param}
 use Rattle.script_records.specs.declared.layout.Layout.{Layout}
-use Rattle.script_records.specs.declared.layout.Row.{Row}
 use Rattle.script_records.specs.Layout.{layout_of}
 use Rattle.script.specs.Rules.{check_of}
 use Rattle.lowering.specs.Builder.{limits01}

@@ -224,6 +224,7 @@ field_live kind.Other e = omega arith
 -- a function's number is that of a record
 both_true : (a b : Bool) → T (a && b) → a ≡ true
 both_true true b h = refl
+both_true false b h = elim h [ ]
 
 pub number_less : (F : List ℕ) (i : ℕ) → T (names_function F i) → i < (layout_of F).count
 unfolding names_function

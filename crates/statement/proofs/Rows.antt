@@ -16,7 +16,7 @@ use Rattle.lowering.specs.Meaning.{Loop, Meaning, param, hoisted, element}
 use Rattle.lowering.specs.Meaning as meaning
 use Rattle.lowering.specs.Statement.{meanings, branch, expr, discarded, exprs, all_discarded, gen_fields, has_case, has_default, default_label, gen_conditionals, gen_elements}
 use Rattle.codegen_state.specs.declared.CodeBuilder.{CodeBuilder}
-use Rattle.codegen_state.specs.View.{after}
+use Rattle.codegen_state.specs.View.{Held, after}
 use Rattle.codegen_state.specs.Does.{Does}
 use Rattle.codegen_state.proofs.Steps.{after_then, after_done}
 use Rattle.tree.specs.Trees.{labelled, cases, from_default_of, from_default_at, is_labelled, is_case}
@@ -36,12 +36,14 @@ module _ (lp : Loop) (f d : ℕ) where
   pub exprs_each : (ms : Forest Meaning) → Same (exprs ms) (each_of Expr lp f d ms)
   unfolding each_of
   exprs_each Forest.none v = refl
-  exprs_each (more ms m kids) v = rw (after_then v (exprs ms) (expr m), after_then v (each_of Expr lp f d ms) (expr m), exprs_each ms v)
+  exprs_each (more ms m kids) v =
+      after_then v (exprs ms) (expr m) ∙ ap (λ (x : Held (Unit {0})). after x (expr m)) (exprs_each ms v) ∙ sym (after_then v (each_of Expr lp f d ms) (expr m))
 
   pub discarded_each : (ms : Forest Meaning) → Same (all_discarded ms) (each_of Discarded lp f d ms)
   unfolding each_of
   discarded_each Forest.none v = refl
-  discarded_each (more ms m kids) v = rw (after_then v (all_discarded ms) (discarded m), after_then v (each_of Discarded lp f d ms) (discarded m), discarded_each ms v)
+  discarded_each (more ms m kids) v =
+      after_then v (all_discarded ms) (discarded m) ∙ ap (λ (x : Held (Unit {0})). after x (discarded m)) (discarded_each ms v) ∙ sym (after_then v (each_of Discarded lp f d ms) (discarded m))
 
   pub fields_each : (ms : Forest Meaning) → Same (gen_fields ms) (each_of Field lp f d ms)
   unfolding each_of

@@ -1,5 +1,4 @@
 use Rattle.builder.proofs.Actions.{op_says}
-use borrow.Author.Rules.{rules}
 use Rattle.builder.proofs.builder.action_down.Goals as goal
 
 pub returns : goal.returns

@@ -1,5 +1,4 @@
 use Rattle.builder.proofs.Marks.{size_down}
-use borrow.Author.Rules.{rules}
 use Rattle.builder.proofs.builder.assume_stack_delta.Goals as goal
 
 pub returns : goal.returns

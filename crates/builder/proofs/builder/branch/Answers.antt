@@ -1,6 +1,5 @@
 use Rattle.pcode.specs.Pcode.{Branching}
 use Rattle.builder.proofs.Actions.{branch_says}
-use borrow.Author.Rules.{rules}
 use Rattle.builder.proofs.builder.branch.Goals as goal
 
 pub returns : goal.returns

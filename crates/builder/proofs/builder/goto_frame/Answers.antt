@@ -1,6 +1,5 @@
 use native.Mathlib.Omega.{arith}
 use Rattle.builder.proofs.Actions.{frame_says}
-use borrow.Author.Rules.{rules}
 use Rattle.builder.proofs.builder.goto_frame.Goals as goal
 
 pub returns : goal.returns

@@ -1,5 +1,4 @@
 use Rattle.builder.proofs.Actions.{frame2_says}
-use borrow.Author.Rules.{rules}
 use Rattle.builder.proofs.builder.goto_frame2.Goals as goal
 
 pub returns : goal.returns

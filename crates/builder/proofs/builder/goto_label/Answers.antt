@@ -1,6 +1,5 @@
 use native.Mathlib.Omega.{arith}
 use Rattle.builder.proofs.Actions.{label_says}
-use borrow.Author.Rules.{rules}
 use Rattle.builder.proofs.builder.goto_label.Goals as goal
 
 pub returns : goal.returns

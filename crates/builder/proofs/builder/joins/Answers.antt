@@ -1,6 +1,5 @@
 use native.Mathlib.Omega.{arith}
 use Rattle.builder.proofs.Pushes.{joins_none, joins_code}
-use borrow.Author.Rules.{rules}
 use Rattle.builder.proofs.builder.joins.Goals as goal
 
 pub returns-then-b-top : goal.returns-then-b-top

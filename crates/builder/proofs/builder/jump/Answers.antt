@@ -1,7 +1,6 @@
 use native.Mathlib.Omega.{arith}
 use Rattle.pcode.specs.Pcode.{Branching}
 use Rattle.builder.proofs.Actions.{branch_says}
-use borrow.Author.Rules.{rules}
 use Rattle.builder.proofs.builder.jump.Goals as goal
 
 pub returns : goal.returns

@@ -1,5 +1,4 @@
 use Rattle.lowering.specs.Builder.{mark_default}
-use borrow.Author.Rules.{rules}
 use Rattle.builder.proofs.builder.mark_default.Goals as goal
 
 pub returns : goal.returns

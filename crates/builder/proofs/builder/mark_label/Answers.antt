@@ -1,5 +1,4 @@
 use Rattle.lowering.specs.Builder as steps
-use borrow.Author.Rules.{rules}
 use Rattle.builder.proofs.builder.mark_label.Goals as goal
 
 pub returns : goal.returns

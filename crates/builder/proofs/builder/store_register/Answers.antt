@@ -1,6 +1,5 @@
 use native.Mathlib.Omega.{arith}
 use Rattle.builder.proofs.Actions.{store_says}
-use borrow.Author.Rules.{rules}
 use Rattle.builder.proofs.builder.store_register.Goals as goal
 
 pub returns : goal.returns

@@ -1,6 +1,4 @@
-use borrow.Author.Rules.{rules}
-use Prim.Native.Nat.{◌-◌}
-use Rattle.builder.proofs.Pops.{PopsInv, pops_holds, pops_again, pops_done}
+use Rattle.builder.proofs.Pops.{pops_holds, pops_again, pops_done}
 use Rattle.builder.proofs.builder.truncate_stack.Goals as goal
 
 pub loop-i-init : goal.loop-i-init

@@ -1,6 +1,5 @@
-use borrow.Author.Rules.{rules}
 use Prim.Native.Nat.{◌-◌}
-use Rattle.builder.proofs.Pops.{PopsInv, pops_holds, pops_again, pops_done}
+use Rattle.builder.proofs.Pops.{PopsInv}
 use Rattle.builder.proofs.builder.truncate_stack.Given as goal
 
 abbrev pub invariant-loop-i : goal.invariant-loop-i

@@ -1,7 +1,6 @@
 use native.Mathlib.Omega.{arith}
 use Rattle.codegen_state.proofs.Steps.{stays}
 use Rattle.builder.proofs.Elements.{labels_full, labels_done}
-use borrow.Author.Rules.{rules}
 use Rattle.builder.proofs.context.create_labels.Goals as goal
 
 pub returns-then-b-ne0 : goal.returns-then-b-ne0

@@ -1,6 +1,5 @@
 use native.Mathlib.Omega.{arith}
 use Rattle.builder.proofs.Leaves.{marks_le}
-use borrow.Author.Rules.{rules}
 use Rattle.builder.proofs.entries.grow.Goals as goal
 
 pub overflow_add-r-3 : goal.overflow_add-r-3

@@ -1,6 +1,5 @@
-use Prim.Native.Nat.{◌-◌}
 use native.Mathlib.Omega.{arith}
-use Rattle.builder.proofs.FinishWords.{ClearInv, clear_holds, clear_again, clear_done}
+use Rattle.builder.proofs.FinishWords.{clear_holds, clear_again, clear_done}
 use Rattle.builder.proofs.finish.clear_labels.Goals as goal
 
 pub loop-i-init : goal.loop-i-init

@@ -1,6 +1,5 @@
 use Prim.Native.Nat.{◌-◌}
-use native.Mathlib.Omega.{arith}
-use Rattle.builder.proofs.FinishWords.{ClearInv, clear_holds, clear_again, clear_done}
+use Rattle.builder.proofs.FinishWords.{ClearInv}
 use Rattle.builder.proofs.finish.clear_labels.Given as goal
 
 abbrev pub invariant-loop-i : goal.invariant-loop-i

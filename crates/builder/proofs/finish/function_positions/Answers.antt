@@ -1,7 +1,6 @@
-use Prim.Native.Nat.{◌-◌}
 use mathlib.Core.List.{[]}
 use native.Mathlib.Omega.{arith}
-use Rattle.builder.proofs.FinishWords.{FunctionsInv, functions_holds, functions_again, next_standing}
+use Rattle.builder.proofs.FinishWords.{functions_holds, functions_again, next_standing}
 use Rattle.builder.proofs.finish.function_positions.Goals as goal
 
 pub loop-i-init : goal.loop-i-init

@@ -1,7 +1,5 @@
 use Prim.Native.Nat.{◌-◌}
-use mathlib.Core.List.{[]}
-use native.Mathlib.Omega.{arith}
-use Rattle.builder.proofs.FinishWords.{FunctionsInv, functions_holds, functions_again, next_standing}
+use Rattle.builder.proofs.FinishWords.{FunctionsInv}
 use Rattle.builder.proofs.finish.function_positions.Given as goal
 
 abbrev pub invariant-loop-i : goal.invariant-loop-i

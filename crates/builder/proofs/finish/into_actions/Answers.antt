@@ -3,7 +3,6 @@ use mathlib.Core.Path.{◌∙◌}
 use native.Mathlib.Omega.{arith}
 use lib.ListN.{length-set}
 use Rattle.builder.proofs.FinishHolds.{top_stands, lists_stand, finish_done}
-use borrow.Author.Rules.{rules}
 use Rattle.builder.proofs.finish.into_actions.Goals as goal
 
 pub clear_labels-requires : goal.clear_labels-requires

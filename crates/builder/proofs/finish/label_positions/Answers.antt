@@ -1,7 +1,7 @@
 use mathlib.Core.List.{[]}
 use native.Mathlib.Omega.{arith}
 use mathlib.Core.Path.{refl}
-use Rattle.builder.proofs.FinishWords.{PlacesInv, places_holds, places_again}
+use Rattle.builder.proofs.FinishWords.{places_holds, places_again}
 use Rattle.builder.proofs.finish.label_positions.Goals as goal
 
 pub loop-i-init : goal.loop-i-init

@@ -1,7 +1,4 @@
-use mathlib.Core.List.{[]}
-use native.Mathlib.Omega.{arith}
-use mathlib.Core.Path.{refl}
-use Rattle.builder.proofs.FinishWords.{PlacesInv, places_holds, places_again}
+use Rattle.builder.proofs.FinishWords.{PlacesInv}
 use Rattle.builder.proofs.finish.label_positions.Given as goal
 
 abbrev pub invariant-loop-i : goal.invariant-loop-i

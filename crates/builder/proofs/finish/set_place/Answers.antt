@@ -1,5 +1,4 @@
 use borrow.Author.Tests.{eq-eqb, ne_eqb, lt-ltb, le-ltb}
-use borrow.Author.Rules.{rules}
 use Rattle.builder.proofs.finish.set_place.Goals as goal
 
 pub returns-then-label-ge1024 : goal.returns-then-label-ge1024

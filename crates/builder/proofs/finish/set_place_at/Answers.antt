@@ -1,5 +1,4 @@
 use borrow.Author.Tests.{eq-eqb, ne_eqb}
-use borrow.Author.Rules.{rules}
 use Rattle.builder.proofs.finish.set_place_at.Goals as goal
 
 pub returns-then-list-at-ne257 : goal.returns-then-list-at-ne257

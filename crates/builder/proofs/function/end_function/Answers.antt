@@ -3,7 +3,6 @@ use native.Mathlib.Omega.{arith}
 use lib.ListN.{length-set}
 use Rattle.builder.proofs.Leaves.{room_action}
 use Rattle.builder.proofs.Ended.{ended_done, end_stays, end_full}
-use borrow.Author.Rules.{rules}
 use Rattle.builder.proofs.function.end_function.Goals as goal
 
 pub returns-then-b-ne0 : goal.returns-then-b-ne0

@@ -1,4 +1,3 @@
-use borrow.Author.Rules.{rules}
 use Rattle.builder.proofs.move_list.move_entry.Goals as goal
 
 pub returns : goal.returns

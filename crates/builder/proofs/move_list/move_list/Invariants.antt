@@ -1,7 +1,5 @@
 use Prim.Native.Nat.{◌-◌, ◌≤◌}
-use native.Mathlib.Omega.{arith}
 use Rattle.builder.specs.Move.{Moved}
-use Rattle.builder.proofs.Move.{move_holds, move_again}
 use Rattle.builder.proofs.move_list.move_list.Given as goal
 
 abbrev pub invariant-loop-top : goal.invariant-loop-top

@@ -1,8 +1,9 @@
+use native.Mathlib.Omega.{arith}
 use borrow.Author.Tests.{le-leb, lt-leb}
 use Rattle.record_reader.proofs.functions.in_ranges.Goals as goal
 
 pub returns-then-registers-lt2 : goal.returns-then-registers-lt2
-returns-then-registers-lt2 c = rw (lt-leb 2 c.args.registers c.if-registers-lt2.true)
+returns-then-registers-lt2 c = rw (lt-leb 2 c.args.registers (omega arith))
 
 pub returns : goal.returns
-returns c = rw (le-leb 2 c.args.registers c.if-registers-lt2.false)
+returns c = rw (le-leb 2 c.args.registers (omega arith))
