@@ -140,6 +140,11 @@ module _ (F : List ℕ) (l : Layout) (breaks continues : Bool) where
           fewer = omega (arith, r.less);
         }
 
+    -- what is found after one more tree, by whether that one is passed over
+    pub only_next : {out : Bool} → out ≡ of_passed F l 4 breaks continues g → {now : Part} → (out ≡ true → now ≡ found) → (out ≡ false → (found.n ≡ 0) × (now ≡ g)) → OnlyInv F l breaks continues g0 now rest
+    only_next {out = true} k a b = rw (a refl) (only_out (sym k))
+    only_next {out = false} k a b = let (z, q) = b refl in rw q (only_in z)
+
     pub only_less : rest.n < g.n
     only_less = row_less i.row h e
 

@@ -1,4 +1,3 @@
-use mathlib.Core.Path.{sym, ◌∙◌}
 use Rattle.rows.proofs.blocks.only_block.Goals as goal
 
 pub only_tree-found-requires : goal.only_tree-found-requires
@@ -10,8 +9,5 @@ returns-then-found-eq0 c h = absurd (h c.if-found-eq0.true)
 pub kind_at-requires : goal.kind_at-requires
 kind_at-requires c = (c.only_tree-found.ensures c.if-found-eq0.false).within
 
-pub returns-then-kind_at-ne4 : goal.returns-then-kind_at-ne4
-returns-then-kind_at-ne4 c h = absurd (h c.no_part.ensures)
-
 pub returns : goal.returns
-returns c h = (c.only_tree-found.ensures h, sym c.kind_at.ensures ∙ c.if-kind_at-ne4.false)
+returns c h = (c.only_tree-found.ensures h, cc)

@@ -17,13 +17,10 @@ loop-i-init c = (omega arith, omega (arith, c.scan_end-end.ensures.0), record { 
 pub known_row-row-requires : goal.known_row-row-requires
 known_row-row-requires c = row_known _ _ _ c.requires _ (omega (arith, c.scan_end-end.ensures.1))
 
-pub returns-then-row-ge100 : goal.returns-then-row-ge100
-returns-then-row-ge100 c = let n = c.loop-i.invariant in (n.0, omega (arith, n.1, c.scan_end-end.ensures.1), n.2)
-
 pub loop-i-preserved : goal.loop-i-preserved
 loop-i-preserved c =
     let n = c.loop-i.invariant in
-    (omega arith, omega arith, unlabelled_more _ _ _ _ n.2 (omega (arith, ap (λ (r : Row). r.kind) c.known_row-row.ensures, c.if-row-ge100.false)))
+    (omega arith, omega arith, unlabelled_more _ _ _ _ n.2 (omega (arith, ap (λ (r : Row). r.kind) c.known_row-row.ensures)))
 
 pub returns : goal.returns
 returns c = let n = c.loop-i.invariant in (n.0, omega (arith, n.1, c.scan_end-end.ensures.1), n.2)

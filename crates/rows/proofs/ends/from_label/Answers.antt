@@ -17,13 +17,9 @@ overflow_sub-part c = omega (arith, kept_some _ _ _ _ _ _ _ _ c.loop-n-test.true
 pub kind_at-requires : goal.kind_at-requires
 kind_at-requires c = kept_row _ _ _ _ _ _ _ _ c.loop-n-test.true (c.loop-n.invariant.1 _ _ c.requires.kept_of)
 
-pub returns-then-kind_at-ge100 : goal.returns-then-kind_at-ge100
-returns-then-kind_at-ge100 c = c.loop-n.invariant.1 _ _ c.requires.kept_of
-
 pub loop-n-preserved : goal.loop-n-preserved
 loop-n-preserved c =
-    let k = rw c.kind_at.ensures at c.if-kind_at-ge100.false in
-    (omega (arith, c.loop-n.invariant.0), λ lp last x. kept_pop _ _ _ _ _ _ _ c.loop-n-test.true (c.loop-n.invariant.1 lp last x) (omega (arith, k)))
+    (omega (arith, c.loop-n.invariant.0), λ lp last x. kept_pop _ _ _ _ _ _ _ c.loop-n-test.true (c.loop-n.invariant.1 lp last x) (omega (arith, c.kind_at.ensures)))
 
 pub returns : goal.returns
 returns c = rw c.loop-n-test.false at (c.loop-n.invariant.1 _ _ c.requires.kept_of)
