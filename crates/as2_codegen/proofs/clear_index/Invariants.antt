@@ -1,3 +1,4 @@
+-- The loop's invariant: the words behind those of the list slice are zeros up to i.
 use Prim.Native.Nat.{◌-◌}
 use lib.ListN.{length}
 use Rattle.as2_codegen.proofs.Copying.{Clearing}

@@ -1,3 +1,4 @@
+-- By what its steps do, the definition gives the same lists or the same refusal.
 use Rattle.as2_codegen.proofs.Meets.{generating, base_is, generated_lists, generated_refusal}
 use Rattle.as2_codegen.proofs.generate.Goals as goal
 

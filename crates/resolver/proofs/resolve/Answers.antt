@@ -1,3 +1,4 @@
+-- What the passes find is what the definition says.
 use native.Mathlib.Omega.{arith}
 use Rattle.resolver.proofs.Stand.{stands}
 use Rattle.resolver.proofs.Sizing.{sized}

@@ -1,3 +1,4 @@
+-- The whole table is computed from the names and compared.
 use native.Mathlib.Omega.{arith}
 use mathlib.Core.List.{[]}
 use lib.ListN.{length, get_or-map}

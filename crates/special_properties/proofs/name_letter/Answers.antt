@@ -1,3 +1,4 @@
+-- The whole table is computed from the names and compared.
 use native.Mathlib.Omega.{arith}
 use Rattle.special_properties.specs.SpecialProperties.{names}
 use Rattle.special_properties.proofs.Table.{row_at, names_count, names_width}

@@ -1,3 +1,4 @@
+-- Each arm decides the definition's two tests.
 use native.Mathlib.Omega.{arith}
 use borrow.Author.Tests.{le-leb, lt-leb}
 use Rattle.special_properties.specs.SpecialProperties.{to_ascii_lowercase}

@@ -1,3 +1,4 @@
+-- It moves on by two characters and one byte, or stops.
 use lib.ListN.{length-set}
 use native.Mathlib.Omega.{arith}
 use Rattle.text_lines.proofs.byte.Goals as goal

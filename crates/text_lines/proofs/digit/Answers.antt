@@ -1,3 +1,4 @@
+-- The tests decide those of `hex_value`.
 use native.Mathlib.Omega.{arith}
 use borrow.Author.Tests.{lt-ltb, le-ltb, le-leb, lt-leb}
 use Rattle.text_lines.specs.Text.{hex_value}

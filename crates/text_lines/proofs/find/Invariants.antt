@@ -1,3 +1,4 @@
+-- The invariant: what it looks for does not stand between `from` and `i`.
 use Prim.Native.Nat.{ℕ, ◌≤◌, ◌<◌, ◌-◌}
 use mathlib.Core.Path.{◌≡◌}
 use lib.ListN.{length, get_or}

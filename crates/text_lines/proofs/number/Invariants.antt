@@ -1,3 +1,4 @@
+-- It stops before ten million.
 use Prim.Native.Nat.{◌≤◌, ◌<◌, ◌-◌}
 use lib.ListN.{length}
 use Rattle.text_lines.proofs.number.Given as goal

@@ -1,3 +1,4 @@
+-- `repeat` is safe and keeps the length.
 use Prim.Native.Nat.{◌≤◌, ◌-◌}
 use mathlib.Core.Path.{◌≡◌}
 use lib.ListN.{length}

@@ -1,3 +1,4 @@
+-- The loop's invariant: the trees that are left make the counts of those after them the whole part's.
 use Rattle.tree.proofs.Counting.{Counted}
 use Rattle.tree.proofs.counts_of.Given as goal
 

@@ -1,3 +1,4 @@
+-- The loop's invariant: up to i there are whole chars.
 use Prim.Native.Nat.{◌-◌}
 use lib.ListN.{length}
 use Rattle.utf8.specs.Chars.{Passed}

@@ -1,3 +1,4 @@
+-- No byte before i is zero.
 use Prim.Native.Nat.{◌-◌}
 use lib.ListN.{length}
 use Rattle.resolver.proofs.Texts.{ZeroInv}

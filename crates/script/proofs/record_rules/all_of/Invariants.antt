@@ -1,3 +1,4 @@
+-- The loop's invariant: what is left decides as the whole part does.
 use mathlib.Core.Path.{◌≡◌}
 use Rattle.script_records.specs.Layout.{rows_of}
 use Rattle.script_records.specs.Parts.{trees_in}

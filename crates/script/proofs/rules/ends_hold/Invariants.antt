@@ -1,3 +1,4 @@
+-- The loop's invariant: no end before this one fell.
 use Prim.Native.Nat.{ℕ, ◌-◌}
 use mathlib.Core.Bool.{Bool}
 use mathlib.Core.List.{List}

@@ -1,3 +1,4 @@
+-- The loop's invariant: every record before this one is supported.
 use Prim.Native.Nat.{ℕ, ◌-◌}
 use mathlib.Core.Bool.{Bool}
 use mathlib.Core.List.{List}

@@ -1,3 +1,4 @@
+-- The loop's invariant: every record before this one keeps the rules.
 use Prim.Native.Nat.{◌-◌}
 use Rattle.script_records.specs.Layout.{rows_of}
 use Rattle.script.specs.Rules.{record_holds}

@@ -1,3 +1,4 @@
+-- The loop's invariant: what is left decides as the whole table does.
 use Prim.Native.Nat.{◌≤◌, ◌-◌}
 use mathlib.Core.Path.{◌≡◌}
 use Rattle.script_records.specs.Layout.{strings_from, strings_of}

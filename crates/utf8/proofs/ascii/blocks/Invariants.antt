@@ -1,3 +1,4 @@
+-- The loop's invariant: up to i there is ASCII.
 use Prim.Native.Nat.{◌-◌, ◌≤◌}
 use Rattle.utf8.specs.Chars.{Passed, Closed}
 use Rattle.utf8.proofs.ascii.blocks.Given as goal

@@ -1,3 +1,4 @@
+-- The loop's invariant: `count` is i only where the first i bytes are ASCII.
 use Prim.Native.Nat.{◌-◌, ◌≤◌}
 use mathlib.Core.Path.{◌≡◌}
 use Rattle.utf8.specs.Chars.{Ascii}

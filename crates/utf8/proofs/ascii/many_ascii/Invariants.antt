@@ -1,3 +1,4 @@
+-- The loop's invariant: `ascii` is true only where the first i bytes are ASCII.
 use Prim.Native.Nat.{◌-◌, ◌≤◌}
 use mathlib.Core.Path.{◌≡◌}
 use mathlib.Core.Bool.{true}

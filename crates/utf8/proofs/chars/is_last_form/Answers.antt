@@ -1,3 +1,4 @@
+-- What is left can start no char.
 use mathlib.Core.Path.{refl, sym, ◌∙◌}
 use lib.Dec.{ltb}
 use lib.ListN.{get_or}

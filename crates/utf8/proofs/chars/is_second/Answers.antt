@@ -1,3 +1,4 @@
+-- By those of the functions for the range's ends.
 use Prim.Native.Nat.{ℕ}
 use mathlib.Core.Path.{◌∙◌, ap₂}
 use Rattle.utf8.specs.Utf8.{◌to◌, in_range}

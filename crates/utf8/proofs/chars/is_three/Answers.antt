@@ -1,3 +1,4 @@
+-- Byte by byte.
 use Prim.Native.Nat.{◌+◌}
 use mathlib.Core.Bool.{false}
 use mathlib.Core.Path.{refl, sym, ◌∙◌}

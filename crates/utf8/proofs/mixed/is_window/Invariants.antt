@@ -1,3 +1,4 @@
+-- The loop's invariant: `count` is k only where the first k bytes can stand where they do.
 use Prim.Native.Nat.{◌-◌, ◌≤◌}
 use mathlib.Core.Path.{◌≡◌}
 use Rattle.utf8.specs.Chars.{Follows}

@@ -1,3 +1,4 @@
+-- The loop's invariant: up to i + 3 each byte can stand where it does.
 use Prim.Native.Nat.{◌+◌, ◌-◌, ◌≤◌}
 use lib.ListN.{length}
 use Rattle.utf8.specs.Chars.{Follows}
