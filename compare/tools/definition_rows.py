@@ -6,7 +6,7 @@
   definition_rows.py lower STDIN EXPECTED.LOWERING FIRST COUNT OUT            longer script files, from their trees: lists and marks, or 5 to 8
   definition_rows.py number STDIN EXPECTED.COMPILE FIRST COUNT OUT            script files, from their trees: the refusal, 0 for none
 
-OUT is a file of a crate's proofs/, in a repository whose crates.txt gives that crate `definition` and what that one leans on; `rt dev` of the crate
+OUT is a file of a crate's proofs/, in a repository whose crates.txt gives that crate `definition` and what that one leans on; `rt check` in the crate
 then takes some 10 s for 200 short files. A V L are limits, for which `oracle limits A V L compile` makes the expected answers.
 """
 import re
