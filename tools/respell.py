@@ -63,6 +63,12 @@ OF_CRATE = {
 }
 
 
+# Names that are another's in one crate only.
+IN_CRATE = {
+    "rascal": {"list_words_lem": "list_words"},
+}
+
+
 def files(ends):
     for folder, dirs, names in os.walk("crates"):
         dirs[:] = sorted(d for d in dirs if d != "out")
@@ -179,6 +185,8 @@ def main():
     changed = 0
     for path, text in texts.items():
         to = turn(text)
+        own = IN_CRATE.get(path.split("/")[1], {})
+        to = TOKEN.sub(lambda m: own.get(m[0], m[0]), to)
         if to != old[path]:
             changed += 1
             with open(path, "w", encoding="utf-8", newline="") as it:

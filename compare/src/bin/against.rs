@@ -2,7 +2,7 @@
 //!
 //! KIND is `scripts`, `overflow` (scripts that fill the pool), `idle` (scripts in which much generates nothing), `texts`
 //! (scripts with strings of any characters, damaged in them) or `bytes` (action bytes). The files are COUNT random ones of the seed or, without a seed, lines `NAME BYTES` on standard input. The verified side is the program, for instance
-//! target/bin/compile_files or target/bin/read_files, or else the static library (feature `verified`).
+//! crates/compile_files/out/compile_files or crates/read_files/out/read_files, or else the static library (feature `verified`).
 //!
 //! Prints what the files come to. At the first difference it stops, makes the file smaller while the difference shows, prints
 //! it as a line that `oracle` takes, with both answers, and fails.

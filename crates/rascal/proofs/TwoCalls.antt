@@ -24,11 +24,11 @@ use Rattle.rascal.specs.TwoCalls.{Call, call_bytes, lists_of_outcome, call_lists
 record Success (c : Call) : Type 0 where
   bytes : List ℕ
   lists : List (List Item)
-  is : compile_of c.file c.list_words_lem c.room ≡ compiled bytes lists
+  is : compile_of c.file c.list_words c.room ≡ compiled bytes lists
 
 success : (c : Call) → Success c
 success c =
-    let x = (definition.number_0_exactly c.file c.list_words_lem c.room).0 (sym c.compiles.answer) in
+    let x = (definition.number_0_exactly c.file c.list_words c.room).0 (sym c.compiles.answer) in
     record { bytes = x.0; lists = x.1; is = x.2 }
 
 module _ (c : Call) where
@@ -44,7 +44,7 @@ module _ (c : Call) where
   lists_are : call_lists c ≡ s.lists
   lists_are = ap lists_of_outcome s.is
 
-  outcome_is : compile_of c.file c.list_words_lem c.room ≡ compiled (call_bytes c) (call_lists c)
+  outcome_is : compile_of c.file c.list_words c.room ≡ compiled (call_bytes c) (call_lists c)
   outcome_is = s.is ∙ ap (λ (b : List ℕ). compiled b s.lists) (sym bytes_are) ∙ ap (compiled (call_bytes c)) (sym lists_are)
 
   -- the list slice holds the call's lists
@@ -57,19 +57,19 @@ module _ (c : Call) where
   -- body: on the first byte of one of that list's actions or at that body's end
   pub branches_land : (k i : ℕ) (j : Branching) (label : ℕ) → get_elem? (actions (list_at (call_lists c) k)) i ≡ some (branch j label) →
       LandsAtItsMark (call_lists c) k i j label
-  branches_land = definition.branches_land c.file c.list_words_lem c.room c.of_bytes (call_bytes c) (call_lists c) outcome_is
+  branches_land = definition.branches_land c.file c.list_words c.room c.of_bytes (call_bytes c) (call_lists c) outcome_is
 
   -- the top list's body is all the call's bytes before its End byte; a function's is those its record counts, and stands after that record
   pub top_list_body : call_bytes c ≡ body_bytes (by_place (call_lists c)) 0 ++ (0 ∷ [])
-  top_list_body = definition.top_list_body c.file c.list_words_lem c.room c.of_bytes (call_bytes c) (call_lists c) outcome_is
+  top_list_body = definition.top_list_body c.file c.list_words c.room c.of_bytes (call_bytes c) (call_lists c) outcome_is
 
   pub function_body : (k i : ℕ) (h : Header) (j : ℕ) → get_elem? (list_of (by_place (call_lists c)) k) i ≡ some (define h j) →
       Stands (by_place (call_lists c)) k i (header_bytes h (length (body_bytes (by_place (call_lists c)) j)) ++ body_bytes (by_place (call_lists c)) j)
-  function_body = definition.function_body c.file c.list_words_lem c.room c.of_bytes (call_bytes c) (call_lists c) outcome_is
+  function_body = definition.function_body c.file c.list_words c.room c.of_bytes (call_bytes c) (call_lists c) outcome_is
 
 -- of two calls that compile, one's bytes are the beginning of the other's, or all of it, exactly if their lists are the same by place; the bytes are then equal
 pub two_calls : (c d : Call) → (Begins (call_bytes c) (call_bytes d) ↔ AreSameLists (call_lists c) (call_lists d)) ×
     (AreSameLists (call_lists c) (call_lists d) → call_bytes c ≡ call_bytes d)
 two_calls c d =
-    definition.two_scripts c.file d.file c.of_bytes d.of_bytes c.list_words_lem c.room d.list_words_lem d.room (call_bytes c) (call_bytes d)
+    definition.two_scripts c.file d.file c.of_bytes d.of_bytes c.list_words c.room d.list_words d.room (call_bytes c) (call_bytes d)
     (call_lists c) (call_lists d) (outcome_is c) (outcome_is d)

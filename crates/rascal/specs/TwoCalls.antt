@@ -11,13 +11,13 @@ use Rattle.definition.specs.Left.{Compiles}
 -- a compile call that was not refused: what it took and what it left
 pub record Call : Type 0 where
   pub file : List ℕ
-  pub list_words_lem : ℕ
+  pub list_words : ℕ
   pub room : ℕ
   pub length' : ℕ
   pub output : List ℕ
   pub list : List ℕ
   pub of_bytes : Bytes file
-  pub compiles : Compiles limits01 file list_words_lem room 0 length' output list
+  pub compiles : Compiles limits01 file list_words room 0 length' output list
 
 abbrev pub call_bytes : Call → List ℕ
 call_bytes c = take c.length' c.output
@@ -27,4 +27,4 @@ lists_of_outcome (compiled b ls) = ls
 lists_of_outcome (refused n) = []
 
 abbrev pub call_lists : Call → List (List Item)
-call_lists c = lists_of_outcome (compile_of c.file c.list_words_lem c.room)
+call_lists c = lists_of_outcome (compile_of c.file c.list_words c.room)
