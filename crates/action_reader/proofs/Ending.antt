@@ -1,10 +1,12 @@
 -- The loops around the steps, and the answer.
 use Prim.Native.Nat.{ℕ, ◌≤◌, ◌<◌}
 use mathlib.Core.Path.{◌≡◌}
-use mathlib.Core.List.{List}
+use mathlib.Core.Logic.{⊎_elim}
+use mathlib.Core.List.{List, [], ◌∷◌}
 use native.Mathlib.Omega.{arith}
 use lib.ListN.{length}
 use borrow.Author.Tests.{lt-ltb, le-ltb}
+use types.Run.{OneOf}
 use Rattle.lowering.specs.Builder.{limits01}
 use Rattle.list_slice.specs.Words.{zeros_of}
 use Rattle.definition.specs.Read.{read_with}
@@ -12,6 +14,9 @@ use Rattle.definition.specs.Left.{Reads}
 use Rattle.action_reader.specs.declared.walk.Walk.{Walk}
 use Rattle.action_reader.specs.View.{Stands}
 use Rattle.action_reader.specs.Walked.{Walked, going, done, refused, Over, found, nowhere}
+
+pub not_two : OneOf (0 ∷ 1 ∷ 3 ∷ 4 ∷ 5 ∷ []) 2 → ⊥
+not_two h = ⊎_elim (λ e. omega arith) (⊎_elim (λ e. omega arith) (⊎_elim (λ e. omega arith) (⊎_elim (λ e. omega arith) (λ e. omega arith)))) h
 
 -- the walk
 

@@ -1,5 +1,5 @@
 -- `put_lines` is safe and ends. A line may end at the end of the text, and the next then starts one past it.
-use Rattle.std.proofs.Common.{◌-◌, ◌≡◌, ℕ, ◌+◌, ◌*◌, ◌<◌, ◌≤◌, length}
+use Rattle.std.proofs.Common.{◌-◌, ◌+◌, ◌≤◌, length}
 use Rattle.compile_files.proofs.put_lines.Given as goal
 
 abbrev pub invariant-loop-at : goal.invariant-loop-at

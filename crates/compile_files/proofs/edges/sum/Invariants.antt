@@ -1,5 +1,5 @@
 -- `sum` stays below 65521, and ends.
-use Rattle.std.proofs.Common.{◌-◌, ◌≡◌, ℕ, ◌+◌, ◌*◌, ◌<◌, ◌≤◌, length}
+use Rattle.std.proofs.Common.{◌-◌, ◌<◌, ◌≤◌, length}
 use Rattle.compile_files.proofs.edges.sum.Given as goal
 
 abbrev pub invariant-loop-i : goal.invariant-loop-i
