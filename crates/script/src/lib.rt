@@ -36,6 +36,7 @@ fn rules_hold(file: &[u8], l: Layout) -> bool
 }
 
 // Which refusal a file of any content gets.
+#[tactic(auto, using(crate::proofs::RuleLaws::check_rules))]
 pub fn check(file: &[u8]) -> Answer
     ensures { refusal_of result ≡ check_of file.now }
 {
