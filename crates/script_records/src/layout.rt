@@ -11,6 +11,13 @@ pub struct Layout {
     pub strings: u32,
 }
 
+// A script file, and where its areas are.
+#[derive(Clone, Copy)]
+pub struct ScriptFile<'a> {
+    pub bytes: &'a [u8],
+    pub layout: Layout,
+}
+
 // A record: its five words.
 #[derive(Clone, Copy)]
 pub struct Row {
@@ -106,80 +113,133 @@ fn no_row() -> Row
     }
 }
 
-// Record i, where it lies in the file.
+impl<'a> ScriptFile<'a> {
+    // Record i, where it lies in the file.
+    pub fn known_row(&self, i: usize) -> Row
+        requires { HasRow self.now.bytes.now self.now.layout i }
+        ensures { result ≡ row_in (rows_of self.now.bytes.now self.now.layout) i }
+    {
+        let at = self.layout.records + 20 * i;
+        let kind = word(self.bytes, at);
+        let a = word(self.bytes, at + 4);
+        let b = word(self.bytes, at + 8);
+        let c = word(self.bytes, at + 12);
+        let size = word(self.bytes, at + 16);
+        Row {
+            kind,
+            a,
+            b,
+            c,
+            size,
+        }
+    }
+
+    // Record i, and zeros where there is none.
+    pub fn row_at(&self, i: usize) -> Row
+        ensures { result ≡ row_in (rows_of self.now.bytes.now self.now.layout) i }
+    {
+        let base = self.layout.records;
+        if self.layout.count as usize <= i {
+            return no_row();
+        }
+        if self.bytes.len() < base {
+            return no_row();
+        }
+        if self.bytes.len() - base < 20 * i + 20 {
+            return no_row();
+        }
+        self.known_row(i)
+    }
+
+    // Where string i ends, and 0 where its end offset does not lie in the file.
+    pub fn end_at(&self, i: usize) -> usize
+        ensures { result ≡ end_at self.now.bytes.now self.now.layout i }
+    {
+        let base = self.layout.ends;
+        if self.bytes.len() < base {
+            return 0;
+        }
+        if (self.bytes.len() - base) / 4 <= i {
+            return 0;
+        }
+        word(self.bytes, base + 4 * i) as usize
+    }
+
+    pub fn start_at(&self, i: usize) -> usize
+        ensures { result ≡ start_at self.now.bytes.now self.now.layout i }
+    {
+        if i == 0 {
+            return 0;
+        }
+        self.end_at(i - 1)
+    }
+
+    // The part of the file that holds string i.
+    pub fn string(&self, i: usize) -> &'a [u8]
+        ensures { result.now ≡ string_at self.now.bytes.now self.now.layout i }
+    {
+        let start = self.start_at(i);
+        let end = self.end_at(i);
+        if self.bytes.len() <= start {
+            return &self.bytes[0..0];
+        }
+        if end <= start {
+            return &self.bytes[0..0];
+        }
+        if self.bytes.len() <= end {
+            return &self.bytes[start..];
+        }
+        &self.bytes[start..end]
+    }
+}
+
 pub fn known_row(file: &[u8], l: Layout, i: usize) -> Row
     requires { HasRow file.now l i }
     ensures { result ≡ row_in (rows_of file.now l) i }
 {
-    let at = l.records + 20 * i;
-    let kind = word(file, at);
-    let a = word(file, at + 4);
-    let b = word(file, at + 8);
-    let c = word(file, at + 12);
-    let size = word(file, at + 16);
-    Row {
-        kind,
-        a,
-        b,
-        c,
-        size,
-    }
+    let script = ScriptFile {
+        bytes: file,
+        layout: l,
+    };
+    script.known_row(i)
 }
 
-// Record i, and zeros where there is none.
 pub fn row_at(file: &[u8], l: Layout, i: usize) -> Row
     ensures { result ≡ row_in (rows_of file.now l) i }
 {
-    let base = l.records;
-    if l.count as usize <= i {
-        return no_row();
-    }
-    if file.len() < base {
-        return no_row();
-    }
-    if file.len() - base < 20 * i + 20 {
-        return no_row();
-    }
-    known_row(file, l, i)
+    let script = ScriptFile {
+        bytes: file,
+        layout: l,
+    };
+    script.row_at(i)
 }
 
-// Where string i ends, and 0 where its end offset does not lie in the file.
 pub fn end_at(file: &[u8], l: Layout, i: usize) -> usize
     ensures { result ≡ end_at file.now l i }
 {
-    let base = l.ends;
-    if file.len() < base {
-        return 0;
-    }
-    if (file.len() - base) / 4 <= i {
-        return 0;
-    }
-    word(file, base + 4 * i) as usize
+    let script = ScriptFile {
+        bytes: file,
+        layout: l,
+    };
+    script.end_at(i)
 }
 
 pub fn start_at(file: &[u8], l: Layout, i: usize) -> usize
     ensures { result ≡ start_at file.now l i }
 {
-    if i == 0 {
-        return 0;
-    }
-    end_at(file, l, i - 1)
+    let script = ScriptFile {
+        bytes: file,
+        layout: l,
+    };
+    script.start_at(i)
 }
 
-// The part of the file that holds string i.
 pub fn string(file: &[u8], l: Layout, i: usize) -> &[u8]
     ensures { result.now ≡ string_at file.now l i }
 {
-    let start = start_at(file, l, i);
-    let end = end_at(file, l, i);
-    if file.len() <= start {
-        return &file[0..0];
-    }
-    if end <= start {
-        return &file[0..0];
-    }
-    if file.len() <= end {
-        return &file[start..];
-    }
-    &file[start..end]
+    let script = ScriptFile {
+        bytes: file,
+        layout: l,
+    };
+    script.string(i)
 }

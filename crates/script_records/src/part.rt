@@ -3,7 +3,7 @@ ghost use Rattle.std.specs.Prelude.{◌≡◌, ◌-◌, ◌≤◌, min, max};
 ghost use Rattle.script_records.specs.Layout.{rows_of};
 ghost use Rattle.script_records.specs.Parts.{last_tree};
 
-use crate::layout::{Layout, Row};
+use crate::layout::{Layout, Row, ScriptFile};
 
 // The n records that end before record `end`.
 #[derive(Clone, Copy)]
@@ -55,34 +55,46 @@ fn sized(row: Row, p: Part, at: usize, s: usize) -> Tree
     }
 }
 
+impl ScriptFile<'_> {
+    pub fn last_tree(&self, p: Part) -> Tree
+        ensures { result ≡ last_tree (rows_of self.now.bytes.now self.now.layout) p }
+    {
+        let at = minus(p.end, 1);
+        let row = self.row_at(at);
+        // Most trees have one to three records: a branch lets the processor go on before the size is read.
+        if row.size == 1 {
+            if 1 <= p.n {
+                return sized(row, p, at, 1);
+            }
+        }
+        if row.size == 2 {
+            if 2 <= p.n {
+                return sized(row, p, at, 2);
+            }
+        }
+        if row.size == 3 {
+            if 3 <= p.n {
+                return sized(row, p, at, 3);
+            }
+        }
+        let s = span(row.size, p.n);
+        let inner = minus(s, 1);
+        let end = minus(p.end, s);
+        let n = minus(p.n, s);
+        Tree {
+            row,
+            children: Part { end: at, n: inner },
+            before: Part { end, n },
+        }
+    }
+}
+
 pub fn last_tree(file: &[u8], l: Layout, p: Part) -> Tree
     ensures { result ≡ last_tree (rows_of file.now l) p }
 {
-    let at = minus(p.end, 1);
-    let row = crate::layout::row_at(file, l, at);
-    // Most trees have one to three records: a branch lets the processor go on before the size is read.
-    if row.size == 1 {
-        if 1 <= p.n {
-            return sized(row, p, at, 1);
-        }
-    }
-    if row.size == 2 {
-        if 2 <= p.n {
-            return sized(row, p, at, 2);
-        }
-    }
-    if row.size == 3 {
-        if 3 <= p.n {
-            return sized(row, p, at, 3);
-        }
-    }
-    let s = span(row.size, p.n);
-    let inner = minus(s, 1);
-    let end = minus(p.end, s);
-    let n = minus(p.n, s);
-    Tree {
-        row,
-        children: Part { end: at, n: inner },
-        before: Part { end, n },
-    }
+    let script = ScriptFile {
+        bytes: file,
+        layout: l,
+    };
+    script.last_tree(p)
 }

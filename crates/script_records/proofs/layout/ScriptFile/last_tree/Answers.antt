@@ -1,6 +1,6 @@
 use Rattle.script_records.proofs.Trees.{tree_made, tree_sized}
 use native.Mathlib.Omega.{arith}
-use Rattle.script_records.proofs.part.last_tree.Goals as goal
+use Rattle.script_records.proofs.layout.ScriptFile.last_tree.Goals as goal
 
 pub sized-requires : goal.sized-requires
 sized-requires c = record {

@@ -1,6 +1,6 @@
 use Rattle.script_records.proofs.LayoutLaws.{start_zero, start_after}
 use borrow.Author.Rules.{rules}
-use Rattle.script_records.proofs.layout.start_at.Goals as goal
+use Rattle.script_records.proofs.layout.ScriptFile.start_at.Goals as goal
 
 pub returns-then-i-eq0 : goal.returns-then-i-eq0
 returns-then-i-eq0 c = search (rules, start_zero)
