@@ -6,10 +6,8 @@ use mathlib.Core.List.{List, [], ◌∷◌, ◌++◌, map, reverse}
 use mathlib.Core.Bool.{Bool, true, false, cond}
 use native.Mathlib.Omega.{arith}
 use lib.Dec.{eqb, ltb, leb}
-use lib.ListN.{length, get_or, set, take, drop, replicate, length-set, length-take, length-drop, length-append, length-replicate, get_or-append, get_or-replicate}
-use lib.Seq.{get_or-set_same, get_or-set_other, get_or-take, get_or-drop, drop-cons}
-use borrow.Rule.Slice.PartMut.{put_mid}
-use Rattle.std.proofs.lemmas.List.{get_or-append_right}
+use lib.ListN.{length, get_or, set, take, drop, length-set}
+use lib.Seq.{get_or-set_same, get_or-set_other, drop-cons}
 use borrow.Author.Tests.{eqb-true, eqb-false, ltb-true, lt-ltb}
 use Rattle.pcode.specs.Pcode.{Item}
 use Rattle.lowering.specs.Builder.{ends_in_push}
@@ -23,43 +21,14 @@ use Rattle.list_slice.proofs.Laid.{Rising}
 use Rattle.list_slice.proofs.Read.{map_append}
 use Rattle.codegen_state.specs.View.{gather}
 use Rattle.builder.specs.Places.{Cleared, placed, placed_at, actions_added, either, Located, list_at, lists_at, Standing, Finished}
+use Rattle.builder.proofs.Filled.{Filled}
 use Rattle.builder.proofs.Leaves.{run_same, rising_le, gather_more}
 use Rattle.builder.proofs.Move.{part_more}
 use Rattle.builder.proofs.Ended.{rising_snoc, cut_snoc, run_cons}
 use Rattle.builder.proofs.FinishItems.{either_zero, either_more, place_else, place, own_word, step_place, step_before, step_count}
 
--- label words set to 0
-
-module _ (w : List ℕ) (long : 13312 ≤ length w) {ys : List ℕ} (e : ys ≡ replicate (length (take 1024 (drop 12288 w))) 0) where
-  zeros_long : length (take 1024 (drop 12288 w)) ≡ 1024
-  zeros_long = simp (length-take, length-drop) (omega arith)
-
-  before_long : length (take 12288 w) ≡ 12288
-  before_long = simp length-take (omega arith)
-
-  abbrev rest : List ℕ
-  rest = replicate 1024 0 ++ drop 1024 (drop 12288 w)
-
-  pub cleared : Cleared w (put_mid 12288 1024 w ys)
-  cleared = rw (e, zeros_long) (record {
-    long = simp (length-append, length-take, length-drop) (omega arith);
-    before = λ j h. rw (get_or-append (take 12288 w) rest 0 j (rw before_long h), get_or-take 12288 w j 0 h);
-    zeros = λ l h. rw (get_or-append_right (take 12288 w) rest 12288 (12288 + l) 0 before_long (omega arith)) (inner l h);
-    behind = λ j h. rw (get_or-append_right (take 12288 w) rest 12288 j 0 before_long (omega arith)) (outer j h);
-  })
-    where
-      inner : (l : ℕ) → l < 1024 → get_or rest (12288 + l - 12288) 0 ≡ 0
-      inner l h = let i : 12288 + l - 12288 ≡ l = omega arith in rw (i, get_or-append (replicate 1024 0) (drop 1024 (drop 12288 w)) 0 l (rw (length-replicate {A = ℕ} 1024 0) h), get_or-replicate {A = ℕ} 1024 l 0 0 h)
-
-      outer : (j : ℕ) → 13312 ≤ j → get_or rest (j - 12288) 0 ≡ get_or w j 0
-      outer j h =
-          let i : 12288 + (1024 + (j - 12288 - 1024)) ≡ j = omega arith in
-          rw (
-            get_or-append_right (replicate 1024 0) (drop 1024 (drop 12288 w)) 1024 (j - 12288) 0 (length-replicate {A = ℕ} 1024 0) (omega arith),
-            get_or-drop 1024 (drop 12288 w) (j - 12288 - 1024) 0,
-            get_or-drop 12288 w (1024 + (j - 12288 - 1024)) 0,
-            i,
-          )
+pub cleared : {w w' : List ℕ} → Filled w 12288 13312 w' → Cleared w w'
+cleared f = record { long = f.long; before = f.below; zeros = λ l h. f.zeros (12288 + l) (omega arith) (omega arith); behind = f.behind }
 
 -- one label word
 

@@ -2,14 +2,12 @@
 use Prim.Native.Nat.{ℕ, zero, suc, ◌+◌, ◌-◌, ◌≤◌, ◌<◌}
 use mathlib.Core.Path.{◌≡◌, refl, sym, ap, ◌∙◌}
 use mathlib.Core.List.{List, [], ◌∷◌, ◌++◌}
-use mathlib.Core.Bool.{Bool, true, false}
 use native.Mathlib.Nat.{add-zero}
 use native.Mathlib.Omega.{arith}
-use lib.Dec.{eqb}
 use lib.ListN.{length, get_or, set, take, drop, replicate, length-set, length-take, length-drop, length-replicate, get_or-replicate, get_or-eq_default}
 use lib.Seq.{get_or-set_other, get_or-drop, get_or-take, take-add, drop-drop, ext_get_or, drop-set-add, take-set-lt, drop-set-lt}
 use borrow.Author.Tests.{lt-ltb, le-ltb, eq-eqb, ne_eqb}
-use Rattle.std.specs.Prelude.{Option, Some, None, IsSome, IsNone}
+use Rattle.std.specs.Prelude.{Option, Some, None, IsNone}
 use Rattle.decode.proofs.DecodeLaws.{any_default}
 use Rattle.pcode.specs.Pcode.{Delta}
 use Rattle.lowering.specs.Builder.{with_labels, create_label, assume_stack_delta, mark_or}
@@ -18,7 +16,7 @@ use Rattle.codegen_state.specs.declared.Stop.{Stop}
 use Rattle.codegen_state.specs.declared.Stop.TheVariants.{TooMany}
 use Rattle.codegen_state.specs.declared.BuilderState.{BuilderState}
 use Rattle.codegen_state.specs.Stop.{number_of}
-use Rattle.codegen_state.specs.View.{labels_of, state, Waiting, Held, holds, unless, held, carry, after}
+use Rattle.codegen_state.specs.View.{labels_of, state, held, carry, after}
 use Rattle.codegen_state.specs.Does.{marked, Fine, Does}
 use Rattle.codegen_state.proofs.Steps.{held_holds}
 use Rattle.builder.specs.Entries.{put3, Marked}

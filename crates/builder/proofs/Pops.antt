@@ -1,6 +1,6 @@
 -- The loop of pops.
-use Prim.Native.Nat.{ℕ, zero, suc, ◌-◌}
-use mathlib.Core.Path.{◌≡◌, refl, ◌∙◌}
+use Prim.Native.Nat.{ℕ, suc, ◌-◌}
+use mathlib.Core.Path.{◌≡◌, refl}
 use mathlib.Core.List.{List, []}
 use Rattle.pcode.specs.declared.Op.TheVariants.{Pop}
 use Rattle.lowering.specs.Builder.{action, pops, truncate_stack}

@@ -1,5 +1,4 @@
 use mathlib.Core.Path.{sym}
-use mathlib.Core.List.{[]}
 use Rattle.codegen_state.proofs.Steps.{stays}
 use Rattle.codegen_state.specs.Stop.{number_of}
 use Rattle.builder.proofs.Marks.{mark_unmade, mark_again, mark_fine, mark_done, room_mark}
