@@ -8,7 +8,7 @@ use Rattle.builder.proofs.builder.CodeBuilder.refuse.Goals as goal
 
 pub returns-then-is_none : goal.returns-then-is_none
 unfolding refuse
-returns-then-is_none c = λ F. counts (refuses F (refuse {A = Unit {0}} (number_of c.args.stop)) tt c.args.stop c.args.self.now.fine c.if-is_none.ensures refl)
+returns-then-is_none c = λ F. counts refl (refuses F (refuse {A = Unit {0}} (number_of c.args.stop)) tt c.args.stop c.args.self.now.fine c.if-is_none.ensures refl)
 
 pub returns-else-is_none : goal.returns-else-is_none
-returns-else-is_none c = λ F. counts (stays c.if-is_none.ensures c.args.self.now.fine)
+returns-else-is_none c = λ F. counts refl (stays c.if-is_none.ensures c.args.self.now.fine)
