@@ -8,32 +8,29 @@ use Rattle.codegen_state.specs.View.{held, after}
 use Rattle.codegen_state.specs.Does.{Named}
 use Rattle.codegen_state.proofs.Steps.{after_then, after_size, after_done}
 use Rattle.builder.specs.declared.builder.CodeBuilder.{CodeBuilder}
-use Rattle.builder.specs.Runs.{SameList, SamePool, Runs}
-use Rattle.builder.proofs.Runs.{same_list_then, same_pool_then}
+use Rattle.builder.specs.Runs.{Keeps, Runs}
+use Rattle.builder.proofs.Runs.{keeps_then, kept}
 
 -- of n pops so many are left
 pub record PopsInv (n : ℕ) (b0 b : CodeBuilder) (left : ℕ) : Type 0 where
   pub same : (F : List ℕ) → after (held F (tt {0}) b.state b.list.now) (pops left) ≡ after (held F (tt {0}) b0.state b0.list.now) (pops n)
   pub named : (F : List ℕ) → Named F b0.state b0.list.now → Named F b.state b.list.now
-  pub same_list : SameList b0 b
-  pub same_pool : SamePool b0.state b0.list.now b.state b.list.now
+  pub keeps : Keeps b0 b
 
 pub pops_hold : (n : ℕ) (b : CodeBuilder) → PopsInv n b b n
-pops_hold n b = record { same = λ F. refl; named = λ F x. x; same_list = record { name = refl; long = refl }; same_pool = record { constants = refl; words = λ i h. refl } }
+pops_hold n b = record { same = λ F. refl; named = λ F x. x; keeps = kept refl }
 
 module _ {n left : ℕ} {b0 b : CodeBuilder} (v : PopsInv n b0 b left) where
   pub pops_again : {next : ℕ} → left ≡ suc next → {b1 : CodeBuilder} → ((F : List ℕ) → Runs F (action Pop) b tt b1) → PopsInv n b0 b1 next
   pops_again {next} e d = record {
     same = λ F. rw ((d F).does.same, ← after_then (held F (tt {0}) b.state b.list.now) (action Pop) (pops next)) (rw e at (v.same F));
     named = λ F x. (d F).does.named (v.named F x);
-    same_list = same_list_then v.same_list (d []).same_list;
-    same_pool = same_pool_then v.same_pool (d []).same_pool;
+    keeps = keeps_then v.keeps (d []).keeps;
   }
 
   pub pops_done : left ≡ 0 → (z : ℕ) → n ≡ b0.state.size - z → (F : List ℕ) → Runs F (truncate_stack z) b0 tt b
   pops_done o z e F = record {
-    same_list = v.same_list;
-    same_pool = v.same_pool;
+    keeps = v.keeps;
     does = record {
       same = rw (after_size F b0.state b0.list.now (λ now. pops (now - z)), ← e, ← v.same F, o, after_done (held F (tt {0}) b.state b.list.now));
       fine = b.fine;

@@ -12,7 +12,7 @@ use Rattle.codegen_state.specs.Does.{Fine, Does}
 use Rattle.codegen_state.proofs.Index.{indexed_same}
 use Rattle.builder.specs.declared.builder.CodeBuilder.{CodeBuilder}
 use Rattle.builder.specs.Entries.{put3, Grown, Marked, Closed}
-use Rattle.builder.specs.Runs.{SameList, SamePool, Runs}
+use Rattle.builder.specs.Runs.{SameList, SamePool, Keeps, Runs}
 use Rattle.builder.proofs.Move.{end_word, side_word}
 use Rattle.builder.proofs.Words.{getD_put}
 
@@ -45,14 +45,24 @@ module _ {b r : BuilderState} {w w' : List ℕ} (f : Fine b w) (room : b.low < b
         words = λ i h. end_word g.moved b.lists g.low (b.base - 1) 256 (b.lists + 1) number (omega (arith, f.base, f.cap)) i (omega arith) (λ e. omega (arith, f.lists, f.actions)) ∙ side_word w g.moved g.moves.side i (omega arith);
       })
 
+pub keeps_then : {b c d : CodeBuilder} → Keeps b c → Keeps c d → Keeps b d
+keeps_then x y = record { list = same_list_then x.list y.list; pool = same_pool_then x.pool y.pool }
+
+-- the counts alone change
+pub kept : {b : CodeBuilder} {s : BuilderState} {f : Fine s b.list.now} → s.constants ≡ b.state.constants → Keeps b (record { list = b.list; state = s; fine = f })
+kept e = record { list = record { name = refl; long = refl }; pool = record { constants = e; words = λ i h. refl } }
+
+-- words change too
+pub wrote : {b : CodeBuilder} {s : BuilderState} {w : List ℕ} {f : Fine s w} → length w ≡ length b.list.now → SamePool b.state b.list.now s w →
+    Keeps b (record { list = record { ref_ptr = b.list.ref_ptr; ghost_name = b.list.ghost_name; now = w }; state = s; fine = f })
+wrote e p = record { list = record { name = refl; long = e }; pool = p }
+
 -- a step
 
 module _ {A : Type 0} {F : List ℕ} {m : M A} {a : A} {b : CodeBuilder} where
-  -- the counts alone change
   pub counts : {s : BuilderState} {f : Fine s b.list.now} → s.constants ≡ b.state.constants → Does F m b.state b.list.now a s b.list.now → Runs F m b a (record { list = b.list; state = s; fine = f })
-  counts e d = record { same_list = record { name = refl; long = refl }; same_pool = record { constants = e; words = λ i h. refl }; does = d }
+  counts e d = record { keeps = kept e; does = d }
 
-  -- words change too
   pub words : {s : BuilderState} {w : List ℕ} {f : Fine s w} → length w ≡ length b.list.now → SamePool b.state b.list.now s w → Does F m b.state b.list.now a s w →
       Runs F m b a (record { list = record { ref_ptr = b.list.ref_ptr; ghost_name = b.list.ghost_name; now = w }; state = s; fine = f })
-  words e p d = record { same_list = record { name = refl; long = e }; same_pool = p; does = d }
+  words e p d = record { keeps = wrote e p; does = d }

@@ -17,16 +17,19 @@ pub record SamePool (b : BuilderState) (w : List ℕ) (r : BuilderState) (w' : L
   pub constants : r.constants ≡ b.constants
   pub words : (i : ℕ) → 14336 ≤ i → get_or w' i 0 ≡ get_or w i 0
 
+-- what every method of a builder keeps
+pub record Keeps (b r : CodeBuilder) : Type 0 where
+  pub list : SameList b r
+  pub pool : SamePool b.state b.list.now r.state r.list.now
+
 -- from one builder to another the step m is done, with the value a
 pub record Runs {A : Type 0} (F : List ℕ) (m : M A) (b : CodeBuilder) (a : A) (r : CodeBuilder) : Type 0 where
-  pub same_list : SameList b r
-  pub same_pool : SamePool b.state b.list.now r.state r.list.now
+  pub keeps : Keeps b r
   pub does : Does F m b.state b.list.now a r.state r.list.now
 
 -- a function's list ends
 pub record EndsList (F : List ℕ) (h : Header) (b : CodeBuilder) (base size : ℕ) (r : CodeBuilder) : Type 0 where
-  pub same_list : SameList b r
-  pub same_pool : SamePool b.state b.list.now r.state r.list.now
+  pub keeps : Keeps b r
   pub ends : Ends F h b.state b.list.now base size r.state r.list.now
 
 -- a code and its first word are the entry of an action that is no value of a Push

@@ -24,7 +24,7 @@ impl CodeBuilder<'_> {
     ghost use Rattle.codegen_state.specs.Stop.{number_of};
     ghost use Rattle.codegen_state.specs.View.{gather, open_of, value_in, named};
     ghost use Rattle.codegen_state.specs.Does.{Says};
-    ghost use Rattle.builder.specs.Runs.{Runs, Emits};
+    ghost use Rattle.builder.specs.Runs.{Keeps, Runs, Emits};
 
     // Nothing is done any more; an earlier refusal stays.
     pub fn refuse(&mut self, stop: Stop)
@@ -39,7 +39,8 @@ impl CodeBuilder<'_> {
     fn emit(&mut self, code: u32, first: u32, size: u32)
         requires entry { Emits code first }
         requires size_bound { size ≤ self.old.state.size + 1 }
-        ensures { (F : List ℕ) (a : Action) (d : Delta) → Says F code first a → size ≡ moved d self.old.state.size →
+        ensures keeps { Keeps self.old self.new }
+        ensures runs { (F : List ℕ) (a : Action) (d : Delta) → Says F code first a → size ≡ moved d self.old.state.size →
             Runs F (action_with_stack_delta a d) self.old tt self.new }
     {
         if self.state.refused.is_some() {
@@ -91,7 +92,8 @@ impl CodeBuilder<'_> {
 
     // The string is a reference, and is not pooled.
     pub fn goto_label(&mut self, string: u32)
-        ensures { (F : List ℕ) → T (names_string F string) →
+        ensures keeps { Keeps self.old self.new }
+        ensures runs { (F : List ℕ) → T (names_string F string) →
             Runs F (plain_action (GotoLabel (text_in F string)) (Delta.up 0)) self.old tt self.new }
     {
         self.emit(0x8C, string, self.state.size);
@@ -119,7 +121,8 @@ impl CodeBuilder<'_> {
     }
 
     pub fn push(&mut self, v: PushValue)
-        ensures { (F : List ℕ) → T (named F v) → Runs F (steps.push (value_in F v)) self.old tt self.new }
+        ensures keeps { Keeps self.old self.new }
+        ensures runs { (F : List ℕ) → T (named F v) → Runs F (steps.push (value_in F v)) self.old tt self.new }
     {
         if self.state.refused.is_some() {
             return;

@@ -5,7 +5,7 @@ ghost use Rattle.hir.specs.Tree.{Forest};
 ghost use Rattle.lowering.specs.Meaning.{Meaning};
 ghost use Rattle.lowering.specs.Statement.{with_labels};
 ghost use Rattle.builder.specs.Labels.{labels_of_forest, elements_from};
-ghost use Rattle.builder.specs.Runs.{Runs};
+ghost use Rattle.builder.specs.Runs.{Keeps, Runs};
 
 use crate::builder::CodeBuilder;
 use codegen_state::{MAX_LABELS, Stop};
@@ -30,7 +30,8 @@ impl CodeBuilder<'_> {
 
     // A label for each Case and Default of a switch, in order, the first of them the number of labels made before.
     pub fn create_labels(&mut self, n: u32) -> Label
-        ensures { (F : List ℕ) (ms : Forest Meaning) → labels_of_forest ms ≡ n →
+        ensures keeps { Keeps self.old self.new }
+        ensures runs { (F : List ℕ) (ms : Forest Meaning) → labels_of_forest ms ≡ n →
             Runs F (with_labels ms) self.old (elements_from result.0 ms) self.new }
     {
         let first = Label(self.state.labels);

@@ -5,7 +5,7 @@ ghost use Rattle.lowering.specs.Builder.{define_delta};
 ghost use Rattle.list_slice.specs.File.{header_in, names_function};
 ghost use Rattle.codegen_state.specs.Does.{Fine, Ready, Ends};
 ghost use Rattle.builder.specs.Entries.{begun, Closed};
-ghost use Rattle.builder.specs.Runs.{SameList, EndsList};
+ghost use Rattle.builder.specs.Runs.{Keeps, EndsList};
 
 use crate::builder::CodeBuilder;
 use crate::entries::put;
@@ -21,7 +21,7 @@ pub struct Outer {
 
 impl CodeBuilder<'_> {
     pub fn begin_function(&mut self) -> Outer
-        ensures same_list { SameList self.old self.new }
+        ensures keeps { Keeps self.old self.new }
         ensures state { self.new.state ≡ begun self.old.state }
         ensures list { self.new.list.now ≡ self.old.list.now }
         ensures outer { (result.base ≡ self.old.state.base) × (result.size ≡ self.old.state.size) }
@@ -40,7 +40,8 @@ impl CodeBuilder<'_> {
     pub fn end_function(&mut self, outer: Outer, number: u32, up: u32)
         requires ready { Ready self.old.state self.old.list.now outer.base outer.size }
         requires up_bound { up ≤ 1 }
-        ensures { (F : List ℕ) → T (names_function F number) → moved (define_delta (header_in F number)) outer.size ≡ outer.size + up →
+        ensures keeps { Keeps self.old self.new }
+        ensures ends { (F : List ℕ) → T (names_function F number) → moved (define_delta (header_in F number)) outer.size ≡ outer.size + up →
             EndsList F (header_in F number) self.old outer.base outer.size self.new }
     {
         if self.state.refused.is_some() {

@@ -7,4 +7,4 @@ pub emit-requires-clause-entry : goal.emit-requires-clause-entry
 emit-requires-clause-entry c = emits (op_says [] c.args.o c.row_of.ensures.code)
 
 pub returns : goal.returns
-returns c = λ F. c.emit.ensures F _ _ (op_says F c.args.o c.row_of.ensures.code) c.saturating_sub-size.ensures
+returns c = λ F. c.emit.ensures.runs F _ _ (op_says F c.args.o c.row_of.ensures.code) c.saturating_sub-size.ensures

@@ -8,4 +8,4 @@ pub emit-requires-clause-entry : goal.emit-requires-clause-entry
 emit-requires-clause-entry c = emits (branch_says [] Branching.If c.args.label.0)
 
 pub returns : goal.returns
-returns c = λ F. c.emit.ensures F _ _ (branch_says F Branching.If c.args.label.0) c.saturating_sub-size.ensures
+returns c = λ F. c.emit.ensures.runs F _ _ (branch_says F Branching.If c.args.label.0) c.saturating_sub-size.ensures

@@ -8,4 +8,4 @@ pub emit-requires-clause-entry : goal.emit-requires-clause-entry
 emit-requires-clause-entry c = emits (frame_says [] c.args.frame)
 
 pub returns : goal.returns
-returns c = λ F. c.emit.ensures F _ _ (frame_says F c.args.frame) (omega arith)
+returns c = λ F. c.emit.ensures.runs F _ _ (frame_says F c.args.frame) (omega arith)

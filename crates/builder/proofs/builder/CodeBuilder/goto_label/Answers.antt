@@ -8,4 +8,4 @@ pub emit-requires-clause-entry : goal.emit-requires-clause-entry
 emit-requires-clause-entry c = record { piece = Piece.GotoLabel c.args.string; entry_is = refl; low = omega arith }
 
 pub returns : goal.returns
-returns c = λ F h. c.emit.ensures F _ _ (label_says F c.args.string h) (omega arith)
+returns c = record { keeps = c.emit.ensures.keeps; runs = λ F h. c.emit.ensures.runs F _ _ (label_says F c.args.string h) (omega arith) }

@@ -9,4 +9,4 @@ pub emit-requires-clause-entry : goal.emit-requires-clause-entry
 emit-requires-clause-entry c = emits (branch_says [] Branching.Jump c.args.label.0)
 
 pub returns : goal.returns
-returns c = λ F. c.emit.ensures F _ _ (branch_says F Branching.Jump c.args.label.0) (omega arith)
+returns c = λ F. c.emit.ensures.runs F _ _ (branch_says F Branching.Jump c.args.label.0) (omega arith)

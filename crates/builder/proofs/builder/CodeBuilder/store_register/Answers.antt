@@ -8,4 +8,4 @@ pub emit-requires-clause-entry : goal.emit-requires-clause-entry
 emit-requires-clause-entry c = emits (store_says [] c.args.register c.from.ensures)
 
 pub returns : goal.returns
-returns c = λ F. c.emit.ensures F _ _ (store_says F c.args.register c.from.ensures) (omega arith)
+returns c = λ F. c.emit.ensures.runs F _ _ (store_says F c.args.register c.from.ensures) (omega arith)
