@@ -169,7 +169,7 @@ module _ (F : List ℕ) (r : BuilderState) (w : List ℕ) (s n h : ℕ) (f : Fin
         other_word (18432 + k) (λ o. omega (arith, f.values)) (λ o. z (omega arith)) (λ o. omega arith) ∙ x.links k less ∙ ap (λ (g : ℕ). latest hs g k) (other_hash k less)
         ∙ latest_same hs hs' (hs' k) k (λ j p. other_hash j (omega arith))
 
-    added_indexed : Indexed F (r.constants + 1) w'
+    pub added_indexed : Indexed F (r.constants + 1) w'
     added_indexed = record { heads = λ g q. head_at_lem g q (eqb g h) refl; links = λ k q. link_at k q (eqb k r.constants) refl }
 
   pub added_named : h ≡ hash (text_in F s) → T (names_string F s) → Named F r w → Named F (added r n) w'

@@ -1,22 +1,20 @@
 -- The search of the pool, and the builder after a string is added.
-use Rattle.std.specs.Prelude.{ℕ, ◌+◌, ◌≡◌, List, map, get_or, set}
-use Rattle.std.proofs.Math.Option.{Option, none, some}
+use Rattle.std.specs.Prelude.{ℕ, ◌+◌, ◌≡◌, List, map, get_or, set, Option, Some, None}
+use Rattle.std.proofs.Math.Option as math
 use Rattle.special_properties.specs.SpecialProperties.{same_bytes}
 use Rattle.lowering.specs.Strings.{find}
 use Rattle.list_slice.specs.File.{text_in}
 use Rattle.codegen_state.specs.declared.BuilderState.{BuilderState}
 use Rattle.codegen_state.specs.View.{pool_from}
 use Rattle.codegen_state.specs.Index.{heads_from, links_from}
-use Rattle.constants.specs.declared.Found.{Found}
-use Rattle.constants.specs.declared.Found.TheVariants as found
 
 -- the place of the first string of a pool that has the bytes of the string s
-abbrev pub place : List ℕ → (pool : List ℕ) → (s : ℕ) → Option ℕ
+abbrev pub place : List ℕ → (pool : List ℕ) → (s : ℕ) → math.Option ℕ
 place F pool s = find (same_bytes (text_in F s)) 0 (map (text_in F) pool)
 
-abbrev pub found_of : Found → Option ℕ
-found_of (found.At i) = some i
-found_of found.Nothing = none
+abbrev pub found_of : Option ℕ → math.Option ℕ
+found_of (Some i) = math.some i
+found_of None = math.none
 
 -- a string more in the pool, which adds n to the total
 abbrev pub added : BuilderState → (n : ℕ) → BuilderState
