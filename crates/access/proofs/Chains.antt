@@ -2,11 +2,11 @@
 use mathlib.Core.List.{List}
 use Prim.Native.Nat.{ℕ}
 use Rattle.lowering.specs.Builder.{M, Step, ◌>>=◌, ◌>>◌, pure}
-use Rattle.codegen_state.specs.declared.CodeBuilder.{CodeBuilder}
+use Rattle.codegen_state.specs.declared.BuilderState.{BuilderState}
 use Rattle.codegen_state.specs.Does.{Does}
 use Rattle.codegen_state.proofs.Steps.{after_then, after_bind, carry_held, returned}
 
-module _ {F : List ℕ} {b b1 r : CodeBuilder} {w w1 w' : List ℕ} where
+module _ {F : List ℕ} {b b1 r : BuilderState} {w w1 w' : List ℕ} where
   -- a step, and then another
   pub row : {A : Type 0} {a : A} (m : Step) (k : M A) → Does F m b w tt b1 w1 → Does F k b1 w1 a r w' → Does F (m >> k) b w a r w'
   row m k d e = record { same = rw (after_then, ← d.same) e.same; fine = e.fine; named = λ n. e.named (d.named n) }
@@ -16,5 +16,5 @@ module _ {F : List ℕ} {b b1 r : CodeBuilder} {w w1 w' : List ℕ} where
   bound {a = a} m k d e = record { same = rw (after_bind, ← d.same, carry_held) e.same; fine = e.fine; named = λ n. e.named (d.named n) }
 
 -- a step that leaves a value
-pub leaves : {A : Type 0} {F : List ℕ} {b r : CodeBuilder} {w w' : List ℕ} (m : Step) (a : A) → Does F m b w tt r w' → Does F (m >> pure a) b w a r w'
+pub leaves : {A : Type 0} {F : List ℕ} {b r : BuilderState} {w w' : List ℕ} (m : Step) (a : A) → Does F m b w tt r w' → Does F (m >> pure a) b w a r w'
 leaves m a d = row m (pure a) d (returned d.fine)

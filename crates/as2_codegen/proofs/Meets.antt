@@ -20,7 +20,7 @@ use Rattle.list_slice.specs.Compiled.{Holds}
 use Rattle.list_slice.proofs.Areas.{zeros_length}
 use Rattle.zeros.proofs.Clearing.{zeros_zeros}
 use Rattle.definition.specs.Compile.{lists_of, lowered_with}
-use Rattle.codegen_state.specs.declared.CodeBuilder.{CodeBuilder}
+use Rattle.codegen_state.specs.declared.BuilderState.{BuilderState}
 use Rattle.codegen_state.specs.View.{state, Waiting, waiting, holds, stopped, held, back, carry, after}
 use Rattle.codegen_state.specs.Does.{Does}
 use Rattle.codegen_state.proofs.Steps.{held_stopped, held_holds}
@@ -36,18 +36,18 @@ use Rattle.as2_codegen.specs.Begin.{Begun, statements_part, Generating}
 use Rattle.as2_codegen.specs.Lowering.{Lowers, Generated}
 
 -- the statements' part has room in a scratch slice of as many words
-pub walk : {F : List ℕ} {l : Layout} {p : Part} {b : CodeBuilder} {w : List ℕ} {room : ℕ} → Generating F l p b w → p.n ≤ room → Walk F l p b w room
+pub walk : {F : List ℕ} {l : Layout} {p : Part} {b : BuilderState} {w : List ℕ} {room : ℕ} → Generating F l p b w → p.n ≤ room → Walk F l p b w room
 walk g h = record { within = g.within; fits = h; fine = g.fine; named = g.named }
 
-pub few : {F : List ℕ} {l : Layout} {p : Part} {b : CodeBuilder} {w : List ℕ} → Generating F l p b w → p.n < 65536
+pub few : {F : List ℕ} {l : Layout} {p : Part} {b : BuilderState} {w : List ℕ} → Generating F l p b w → p.n < 65536
 few g = omega (arith, g.within.inside, g.within.known, g.within.sound.few)
 
-pub without_loop : {F w w' : List ℕ} (ms : Forest Meaning) {b r : CodeBuilder} (lp : Loop) → loop_of lp ≡ no_loop →
+pub without_loop : {F w w' : List ℕ} (ms : Forest Meaning) {b r : BuilderState} (lp : Loop) → loop_of lp ≡ no_loop →
     Does F (gen_statements (loop_of lp) ms) b w tt r w' → Does F (gen_statements no_loop ms) b w tt r w'
 without_loop ms lp e d = rw e at d
 
 -- case by case: the lists of the state, or the refusal
-module _ (F : List ℕ) (r : CodeBuilder) (w : List ℕ) (x : Waiting) where
+module _ (F : List ℕ) (r : BuilderState) (w : List ℕ) (x : Waiting) where
   lists_at_lem : (b : Bool) → eqb r.refused 0 ≡ b → (y : Result (Unit {0})) → held F tt r w ≡ back x y → r.refused ≡ 0 → finish y ≡ lists (finished (state F r w))
   lists_at_lem c z (ok u s) e h =
       let p : holds tt (state F r w) (waiting r w) ≡ holds u s x = sym (held_holds F tt r w h) ∙ e in
@@ -75,10 +75,10 @@ module _ (F : List ℕ) (accepted : check_of F ≡ 0) (l : Layout) (p : Part) (i
   all_statements : p ≡ statements_in F
   all_statements = is-part ∙ ap statements_part is-layout
 
-  pub generating : (b : CodeBuilder) (w : List ℕ) → Begun F b w → Generating F l p b w
+  pub generating : (b : BuilderState) (w : List ℕ) → Begun F b w → Generating F l p b w
   generating b w g = record { within = rw (is-layout, all_statements) (accepted_within F accepted); fine = g.fine; named = g.named }
 
-  module _ (b : CodeBuilder) (w : List ℕ) (g : Begun F b w) (r : CodeBuilder) (w' : List ℕ)
+  module _ (b : BuilderState) (w : List ℕ) (g : Begun F b w) (r : BuilderState) (w' : List ℕ)
       (d : Does F (gen_statements no_loop (meanings_at F p)) b w tt r w') where
     abbrev generated : Result (Unit {0})
     generated = gen_statements no_loop (meanings_at F (statements_in F)) (start limits01)

@@ -4,13 +4,13 @@ use Rattle.script_records.specs.declared.layout.Layout.{Layout}
 use Rattle.script_records.specs.declared.part.Part.{Part}
 use Rattle.lowering.specs.Builder.{limits01}
 use Rattle.lowering.specs.Statement.{start}
-use Rattle.codegen_state.specs.declared.CodeBuilder.{CodeBuilder}
+use Rattle.codegen_state.specs.declared.BuilderState.{BuilderState}
 use Rattle.codegen_state.specs.View.{state}
 use Rattle.codegen_state.specs.Does.{Fine, Named}
 use Rattle.tree.specs.Within.{Within}
 
 -- the definition's first state, with no list waiting
-pub record Begun (F : List ℕ) (b : CodeBuilder) (w : List ℕ) : Type 0 where
+pub record Begun (F : List ℕ) (b : BuilderState) (w : List ℕ) : Type 0 where
   pub fine : Fine b w
   pub named : Named F b w
   pub starts : state F b w ≡ start limits01
@@ -21,7 +21,7 @@ pub record Begun (F : List ℕ) (b : CodeBuilder) (w : List ℕ) : Type 0 where
 abbrev pub statements_part : Layout → Part
 statements_part l = record { end = l.count - 1; n = l.count - 1 }
 
-pub record Generating (F : List ℕ) (l : Layout) (p : Part) (b : CodeBuilder) (w : List ℕ) : Type 0 where
+pub record Generating (F : List ℕ) (l : Layout) (p : Part) (b : BuilderState) (w : List ℕ) : Type 0 where
   pub within : Within F l p
   pub fine : Fine b w
   pub named : Named F b w

@@ -6,8 +6,10 @@ use mathlib.Core.List.{List, [], ◌∷◌, ◌++◌, map, reverse}
 use mathlib.Core.Bool.{Bool, true, false, cond}
 use native.Mathlib.Omega.{arith}
 use lib.Dec.{eqb, ltb, leb}
-use lib.ListN.{length, get_or, set, take, drop, length-set}
-use lib.Seq.{get_or-set_same, get_or-set_other, drop-cons}
+use lib.ListN.{length, get_or, set, take, drop, replicate, length-set, length-take, length-drop, length-append, length-replicate, get_or-append, get_or-replicate}
+use lib.Seq.{get_or-set_same, get_or-set_other, get_or-take, get_or-drop, drop-cons}
+use borrow.Rule.Slice.PartMut.{put_mid}
+use Rattle.std.proofs.lemmas.List.{get_or-append_right}
 use borrow.Author.Tests.{eqb-true, eqb-false, ltb-true, lt-ltb}
 use Rattle.pcode.specs.Pcode.{Item}
 use Rattle.lowering.specs.Builder.{ends_in_push}
@@ -28,40 +30,36 @@ use Rattle.builder.proofs.FinishItems.{either_zero, either_more, place_else, pla
 
 -- label words set to 0
 
-pub record ClearInv (w0 w : List ℕ) (i : ℕ) : Type 0 where
-  pub long : length w ≡ length w0
-  pub before : (j : ℕ) → j < 12288 → get_or w j 0 ≡ get_or w0 j 0
-  pub zeros : (j : ℕ) → 12288 ≤ j → j < i → get_or w j 0 ≡ 0
-  pub behind : (j : ℕ) → i ≤ j → get_or w j 0 ≡ get_or w0 j 0
-  pub from : 12288 ≤ i
-  pub to : i ≤ 13312
+module _ (w : List ℕ) (long : 13312 ≤ length w) {ys : List ℕ} (e : ys ≡ replicate (length (take 1024 (drop 12288 w))) 0) where
+  zeros_long : length (take 1024 (drop 12288 w)) ≡ 1024
+  zeros_long = simp (length-take, length-drop) (omega arith)
 
-pub clear_holds : (w : List ℕ) → ClearInv w w 12288
-clear_holds w = record {
-  long = refl;
-  before = λ j h. refl;
-  zeros = λ j h k. absurd (omega arith);
-  behind = λ j h. refl;
-  from = omega arith;
-  to = omega arith;
-}
+  before_long : length (take 12288 w) ≡ 12288
+  before_long = simp length-take (omega arith)
 
-pub clear_again : {w0 w : List ℕ} {i : ℕ} → 13312 ≤ length w0 → ClearInv w0 w i → i ≢ 13312 → ClearInv w0 (set w i 0) (i + 1)
-clear_again {w0} {w} {i} l v n = record {
-  long = rw length-set v.long;
-  before = λ j h. rw (get_or-set_other w i j 0 0 (λ e. omega (arith, v.from))) (v.before j h);
-  zeros = λ j h k. at j h k (eqb j i) refl;
-  behind = λ j h. rw (get_or-set_other w i j 0 0 (λ e. omega arith)) (v.behind j (omega arith));
-  from = omega (arith, v.from);
-  to = omega (arith, v.to);
-}
-  where
-    at : (j : ℕ) → 12288 ≤ j → j < i + 1 → (c : Bool) → eqb j i ≡ c → get_or (set w i 0) j 0 ≡ 0
-    at j h k true z = rw (eqb-true j i z) (get_or-set_same w i 0 0 (omega (arith, v.long, v.to)))
-    at j h k false z = let o = eqb-false j i z in rw (get_or-set_other w i j 0 0 o) (v.zeros j h (omega arith))
+  abbrev rest : List ℕ
+  rest = replicate 1024 0 ++ drop 1024 (drop 12288 w)
 
-pub clear_done : {w0 w : List ℕ} {i : ℕ} → ClearInv w0 w i → i ≡ 13312 → Cleared w0 w
-clear_done v e = record { long = v.long; before = v.before; zeros = λ l h. v.zeros (12288 + l) (omega arith) (omega arith); behind = λ j h. v.behind j (omega arith) }
+  pub cleared : Cleared w (put_mid 12288 1024 w ys)
+  cleared = rw (e, zeros_long) (record {
+    long = simp (length-append, length-take, length-drop) (omega arith);
+    before = λ j h. rw (get_or-append (take 12288 w) rest 0 j (rw before_long h), get_or-take 12288 w j 0 h);
+    zeros = λ l h. rw (get_or-append_right (take 12288 w) rest 12288 (12288 + l) 0 before_long (omega arith)) (inner l h);
+    behind = λ j h. rw (get_or-append_right (take 12288 w) rest 12288 j 0 before_long (omega arith)) (outer j h);
+  })
+    where
+      inner : (l : ℕ) → l < 1024 → get_or rest (12288 + l - 12288) 0 ≡ 0
+      inner l h = let i : 12288 + l - 12288 ≡ l = omega arith in rw (i, get_or-append (replicate 1024 0) (drop 1024 (drop 12288 w)) 0 l (rw (length-replicate {A = ℕ} 1024 0) h), get_or-replicate {A = ℕ} 1024 l 0 0 h)
+
+      outer : (j : ℕ) → 13312 ≤ j → get_or rest (j - 12288) 0 ≡ get_or w j 0
+      outer j h =
+          let i : 12288 + (1024 + (j - 12288 - 1024)) ≡ j = omega arith in
+          rw (
+            get_or-append_right (replicate 1024 0) (drop 1024 (drop 12288 w)) 1024 (j - 12288) 0 (length-replicate {A = ℕ} 1024 0) (omega arith),
+            get_or-drop 1024 (drop 12288 w) (j - 12288 - 1024) 0,
+            get_or-drop 12288 w (1024 + (j - 12288 - 1024)) 0,
+            i,
+          )
 
 -- one label word
 
@@ -177,7 +175,7 @@ places_holds {w} {from} {end} h =
       located = λ F. rw e (record { long = refl; before = λ j k. refl; places = λ l k. sym (either_zero (get_or w (12288 + l) 0)); behind = λ j k. refl });
     }
 
-module _ {w0 : List ℕ} {from end : ℕ} (s : Standing w0 from end) {w : List ℕ} {i position before : ℕ} (v : PlacesInv w0 from end w i position before) (more : i ≢ from) where
+module _ {w0 : List ℕ} {from end : ℕ} (s : Standing w0 from end) {w : List ℕ} {i position before : ℕ} (v : PlacesInv w0 from end w i position before) (more : from < i) where
   this : entry_at w (i - 1) ≡ entry_at w0 (i - 1)
   this = same_entries w0 w (v.located []).before (i - 1) (omega (arith, v.to, v.down, s.cap))
 
@@ -230,6 +228,9 @@ module _ {w0 : List ℕ} {from end : ℕ} (s : Standing w0 from end) {w : List �
         located = λ F. rw e (located_more F);
       }
 
+pub places_done : {w0 w : List ℕ} {from end i position before : ℕ} → PlacesInv w0 from end w i position before → i ≤ from → (F : List ℕ) → Located w0 (list_at F w0 from end ∷ []) w
+places_done {from = from} {i = i} v h F = let e : i ≡ from = omega (arith, v.down) in rw e at (v.located F)
+
 -- lists one after the other
 
 words_append : (xs ys : List (List Item)) (l : ℕ) → label_word (xs ++ ys) l ≡ either (label_word xs l) (label_word ys l)
@@ -268,7 +269,7 @@ functions_holds {w} {n} s = record {
   located = λ F. record { long = refl; before = λ j k. refl; places = λ l k. sym (either_zero (get_or w (12288 + l) 0)); behind = λ j k. refl };
 }
 
-module _ {w0 : List ℕ} {n : ℕ} {w : List ℕ} {i from : ℕ} (v : FunctionsInv w0 n w i from) (more : i ≢ n) where
+module _ {w0 : List ℕ} {n : ℕ} {w : List ℕ} {i from : ℕ} (v : FunctionsInv w0 n w i from) (more : i < n) where
   abbrev end : ℕ
   end = get_or w (13312 + i) 0
 
@@ -323,3 +324,6 @@ module _ {w0 : List ℕ} {n : ℕ} {w : List ℕ} {i from : ℕ} (v : FunctionsI
     rest = rest_rising.1;
     located = λ F. rw (lists_more F) (located_append (v.located F) (d F));
   }
+
+pub functions_done : {w0 w : List ℕ} {n i from : ℕ} → FunctionsInv w0 n w i from → n ≤ i → (F : List ℕ) → Located w0 (lists_at F w0 n) w
+functions_done {n = n} {i = i} v h F = let e : i ≡ n = omega (arith, v.to) in rw e at (v.located F)

@@ -1,4 +1,5 @@
 pub mod Words
+pub mod Runs
 pub mod Codes
 pub mod Leaves
 pub mod Actions
