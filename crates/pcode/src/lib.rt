@@ -1,9 +1,9 @@
 #![tactic(auto)]
 
 // The actions of `pcode.rs` that lowering emits.
-ghost use Rattle.std.specs.Prelude.{◌≡◌, ◌<◌};
-ghost use Rattle.pcode.specs.Pcode.{row, row_of, moved};
-ghost use Rattle.pcode.specs.Moves.{delta_of, row_in};
+ghost use Rattle.std.specs.Prelude.{◌≡◌, ◌+◌, ◌<◌, ◌≤◌};
+ghost use Rattle.pcode.specs.Pcode.{row_of, moved};
+ghost use Rattle.pcode.specs.Moves.{delta_of};
 
 // An action without operands, by its code.
 #[derive(Clone, Copy)]
@@ -119,7 +119,8 @@ impl Delta {
     // The size that a size becomes.
     pub fn moved(self, size: u32) -> u32
         requires { size < 4294967295 }
-        ensures { result ≡ moved (delta_of self) size }
+        ensures value { result ≡ moved (delta_of self) size }
+        ensures bound { result ≤ size + 1 }
     {
         match self {
             Delta::Down(down) => size.saturating_sub(down),
@@ -138,7 +139,7 @@ pub struct Row {
 
 impl Row {
     fn new(code: u32, delta: Delta) -> Row
-        ensures { row_in result ≡ row code (delta_of delta) }
+        ensures { result ≡ record { code = code; delta = delta } }
     {
         Row { code, delta }
     }
@@ -146,7 +147,8 @@ impl Row {
 
 // The callers of CallFunction, CallMethod, InitArray, InitObject, NewMethod and StartDrag say their own delta.
 pub fn row_of(o: Op) -> Row
-    ensures { row_in result ≡ row_of o }
+    ensures code { result.code ≡ (row_of o).code }
+    ensures delta { delta_of result.delta ≡ (row_of o).delta }
 {
     match o {
         Op::NextFrame => Row::new(0x04, Delta::Level),
