@@ -1,16 +1,12 @@
 -- The actions that codes and their first words say, and the stack sizes after them.
-use Prim.Native.Nat.{ℕ, ◌+◌, ◌-◌}
+use Prim.Native.Nat.{ℕ}
 use mathlib.Core.Path.{◌≡◌, refl}
 use mathlib.Core.List.{List}
 use mathlib.Core.Bool.{Bool, true, false, ◌&&◌}
 use lib.Dec.{T}
 use mir.Val.{bool_byte}
 use Rattle.pcode.specs.declared.Op.{Op}
-use Rattle.pcode.specs.declared.Row.{Row}
-use Rattle.pcode.specs.Pcode as pcode
-use Rattle.pcode.specs.Pcode.{Plain, Branching, Action, moved, row_of}
-use Rattle.pcode.specs.Moves.{Moves}
-use Rattle.pcode.specs.Moves as moves
+use Rattle.pcode.specs.Pcode.{Plain, Branching, Action, row_of}
 use Rattle.list_slice.specs.Entry.{Piece, bit, branch_code}
 use Rattle.list_slice.specs.File.{names_string, text_in}
 use Rattle.codegen_state.specs.Does.{Says}
@@ -41,11 +37,3 @@ module _ (F : List ℕ) where
 
   pub branch_says : (k : Branching) (l : ℕ) → Says F (branch_code k) l (Action.branch k l)
   branch_says k l = record { piece = Piece.branch k l; entry_is = refl; adds = λ is. refl; is_good = tt }
-
--- the size after an action of the table
-pub size_after : {r : Row} {s : pcode.Row} (z : ℕ) {low up : ℕ} → Moves r s → low ≡ z - r.down → up ≡ bool_byte r.up → low + up ≡ moved s.delta z
-size_after {r} {s} z {low} {up} m e u = rw (m.size z, e, u) (at r.up)
-  where
-    at : (t : Bool) → z - r.down + bool_byte t ≡ z - r.down + moves.bit t
-    at true = refl
-    at false = refl

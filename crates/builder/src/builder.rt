@@ -59,7 +59,7 @@ impl CodeBuilder<'_> {
         ensures { (F : List ℕ) → Runs F (steps.action o) self.old tt self.new }
     {
         let row = row_of(o);
-        let size = self.state.size.saturating_sub(row.down) + u32::from(row.up);
+        let size = row.delta.moved(self.state.size);
         self.emit(row.code, 0, size);
     }
 
