@@ -1,7 +1,7 @@
 #![tactic(auto)]
 
 // Checks script files that stand in a text, a line `NAME BYTES` for each, and prints a line `NAME ANSWER`.
-ghost use Rattle.std.specs.Prelude.{◌≤◌, ◌≡◌};
+ghost use Rattle.std.specs.Prelude.{◌≡◌};
 ghost use Rattle.script.specs.Rules.{check_of};
 
 use std::io;
@@ -30,8 +30,7 @@ fn check_line<W: Write>(line: &[u8], file: &mut [u8], out: &mut W) -> io::Result
         return out.write_all(b" not decoded\n");
     }
     let n = p.bytes;
-    let r = answer(&file[0..n]);
-    out.write_all(&[b' ', b'0' + r, b'\n'])
+    writeln!(out, " {}", answer(&file[0..n]))
 }
 
 fn check_lines<W: Write>(text: &[u8], file: &mut [u8], out: &mut W) -> io::Result<()> {
