@@ -37,7 +37,7 @@ use Rattle.leaves.specs.Args.{Args, Unchanged}
 use Rattle.leaves.proofs.Constants.{Reads}
 
 -- what a part's last tree generates as an expression
-module _ {F : List ℕ} {l : Layout} {p : Part} {t : Node} (n : IsNode F l p t) where
+module _ {F : List ℕ} {l : Layout} {p : Part} {t : Node Part} (n : IsNode F l p t) where
   pub expr_any : (d : Bool) → (kid_at F p 0).gen_expr d ≡ expr_of (rec_of F t.root) (meanings_at F t.children) d
   expr_any d = ap (λ (m : Meaning). m.gen_expr d) (kid_zero F l p n)
 
@@ -59,12 +59,12 @@ args_then i j = record {
   list = j.list ∙ i.list;
 }
 
-pub reversed_more : (F : List ℕ) (l : Layout) (p : Part) {t : Node} → IsNode F l p t → 0 < p.n → exprs_reversed (meanings_at F p) ≡ expr (kid_at F p 0) >> exprs_reversed (meanings_at F t.before)
+pub reversed_more : (F : List ℕ) (l : Layout) (p : Part) {t : Node Part} → IsNode F l p t → 0 < p.n → exprs_reversed (meanings_at F p) ≡ expr (kid_at F p 0) >> exprs_reversed (meanings_at F t.before)
 unfolding meanings
 reversed_more F l p i h = rw (trees_more F l p i h)
 
 module _ {F : List ℕ} {l : Layout} {w0 : List ℕ} {p : Part} {b0 : CodeBuilder} {w : List ℕ} {left : Part} {b : CodeBuilder} (i : Args F l w0 p b0 w left b) where
-  args_again_at : (left.n ≡ 0 → ⊥) → {t : Node} → t ≡ node_of F l left → {b1 : CodeBuilder} {w1 : List ℕ} → Does F ((kid_at F left 0).gen_expr false) b w tt b1 w1 → length w1 ≡ length w →
+  args_again_at : (left.n ≡ 0 → ⊥) → {t : Node Part} → t ≡ node_of F l left → {b1 : CodeBuilder} {w1 : List ℕ} → Does F ((kid_at F left 0).gen_expr false) b w tt b1 w1 → length w1 ≡ length w →
       Args F l w0 p b0 w1 t.before b1
   args_again_at z {t} e {b1} {w1} o q =
       let g = is_node F l left i.within e in
@@ -104,7 +104,7 @@ module _ {F : List ℕ} {l : Layout} {w0 : List ℕ} {p : Part} {b0 : CodeBuilde
   module _ (z : left.n ≡ 0 → ⊥) {t : Tree} (e : t ≡ last_tree (rows_of F l) left) (h : t.row.kind ≡ 32) {c : ConstantKind} (q : c ≡ constant_of (words_of t.row)) where
     root_is : (node_of F l left).root ≡ kind.Expr (expr-kind.Constant c)
     unfolding record_of
-    root_is = ap (λ (n : Node). n.root) (sym (node_made F l left z e refl)) ∙ rw (q, h)
+    root_is = ap (λ (n : Node Part). n.root) (sym (node_made F l left z e refl)) ∙ rw (q, h)
 
     pub args_named : T (constant_named F c)
     args_named = rw root_is at (is_node F l left i.within refl).named

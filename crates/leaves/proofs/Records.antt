@@ -52,14 +52,14 @@ parameter_name F i {s = s} e h t = (rw e (text_is F s h), rw e at t)
 abbrev Looked : Record → Bool → Type 0
 Looked root x = (F : List ℕ) (kids : Forest Meaning) → hoisted (rec_of F root) kids ≡ (x && is_named (shape_of (kid 0 kids).rec))
 
-module _ (F : List ℕ) (l : Layout) (p : Part) {t : Node} (w : Within F l p) (e : t ≡ node_of F l p) where
+module _ (F : List ℕ) (l : Layout) (p : Part) {t : Node Part} (w : Within F l p) (e : t ≡ node_of F l p) where
   inner : (x : Bool) → Looked t.root x → hoisted (kid_at F p 0).rec (list_at F p 0) ≡ (x && is_named (shape_of (kid 0 (meanings (trees F t.children))).rec))
   inner x h = let i = is_node F l p w e in rw (kid_zero F l p i, list_zero F l p i) (h F (meanings (trees F t.children)))
 
   pub not_expr : (x : Bool) → x ≡ false → Looked t.root x → false ≡ hoisted (kid_at F p 0).rec (list_at F p 0)
   not_expr x q h = sym (rw q at (inner x h))
 
-  pub by_shape : (x : Bool) {k : Node} (s : Shape) → x ≡ true → Looked t.root x → k ≡ node_of F l t.children → s ≡ shape_of (rec_of F k.root) →
+  pub by_shape : (x : Bool) {k : Node Part} (s : Shape) → x ≡ true → Looked t.root x → k ≡ node_of F l t.children → s ≡ shape_of (rec_of F k.root) →
       is_named s ≡ hoisted (kid_at F p 0).rec (list_at F p 0)
   by_shape x {k} s q h m v =
       let within = (is_node F l p w e).kids_within in

@@ -40,7 +40,7 @@ nowhere none h t = refl
 nowhere (some label) h t = never (sym h ∙ t)
 
 -- a row, by its last tree
-module _ (F : List ℕ) (l : Layout) (p : Part) {t : Node} (i : IsNode F l p t) (h : 0 < p.n) where
+module _ (F : List ℕ) (l : Layout) (p : Part) {t : Node Part} (i : IsNode F l p t) (h : 0 < p.n) where
   pub each_more : (e : Each) (lp : Loop) (f d : ℕ) → each_of e lp f d (meanings_at F p) ≡
       each_of e lp f d (meanings_at F t.before) >> one_of e lp f d (labels_of_forest (meanings_at F t.before)) (cases_of (meanings_at F t.before)) (kid_at F p 0) (list_at F p 0)
   unfolding meanings each_of
@@ -69,7 +69,7 @@ sub_sub : (j lo s q : ℕ) → lo ≤ q → q < j → j - s ≡ q → j - lo - s
 sub_sub j lo s q a b e = omega arith
 
 -- the trees before the last of those up to j
-pub before_is : (F : List ℕ) (l : Layout) (lo j : ℕ) {t : Node} → IsNode F l (upto lo j) t → lo ≤ start_of F lo j → start_of F lo j < j → t.before ≡ upto lo (start_of F lo j)
+pub before_is : (F : List ℕ) (l : Layout) (lo j : ℕ) {t : Node Part} → IsNode F l (upto lo j) t → lo ≤ start_of F lo j → start_of F lo j < j → t.before ≡ upto lo (start_of F lo j)
 before_is F l lo j g a u = part_is _ _ _ g.end (g.n ∙ sub_sub j lo _ _ a u refl)
 
 module _ (F : List ℕ) (l : Layout) (lo j : ℕ) (w : Within F l (upto lo j)) (a : lo ≤ start_of F lo j) (u : start_of F lo j < j) (e : Each) (lp : Loop) where

@@ -353,7 +353,7 @@ module _ (F : List ℕ) (l : Layout) {breaks continues : Bool} (lp : Loop) (no-b
         let o = onward t (omega (arith, below_end F l p w z, s, low, w.inside)) in
         let q : (k : ℕ) → (row_in (rows_of F l) (p.end - 1)).kind ≡ k → kind_at F l p ≡ k = λ k e. sym (last_kind F l p z refl) ∙ e in
         cases_at _ _ _ _ o.0
-        (λ k u m. (void_still F l p w (q 3 k) (void_below F l p w u) lp, rw ((node_is F l p w).end, span_is F l p w z refl) (rw m at o.1)))
+        (λ k u m. (void_still F l p w (q 3 k) (void_below F l p w u) lp, rw ((node_is F l p w).end, span_is F l p w (omega arith) refl) (rw m at o.1)))
         (λ k b m. (break_still F l p w (q 8 k) lp (no-break b), through (rw m at o.1)))
         (λ k b m. (continue_still F l p w (q 9 k) lp (no-continue b), through (rw m at o.1)))
         (λ k u m. let r = rw m at o.1 in (block_still F l p w (q 4 k) lp (in_block u r), through r))
@@ -462,9 +462,9 @@ module _ (F : List ℕ) (l : Layout) (p : Part) (w : Within F l p) (z : p.n ≡ 
   by_test : (b : Bool) → b ≡ eqb (row_in rs (p.end - 2)).kind 48 → b ≡ passed 128 rs tree_at p.end breaks continues
   by_test true u =
       let n = at_void rs p.end breaks continues {row = row_in rs (p.end - 1)} refl expr_at u refl in
-      let e : p.end - (row_in rs (p.end - 1)).size ≡ tree_at = rw ((node_is F l p w).end, span_is F l p w z refl) in
+      let e : p.end - (row_in rs (p.end - 1)).size ≡ tree_at = rw ((node_is F l p w).end, span_is F l p w (omega arith) refl) in
       passed_end rs tree_at (p.end - (row_in rs (p.end - 1)).size) breaks continues 127 (λ x. omega (arith, x)) (omega (arith, e))
-      ∙ sym (passed_on rs tree_at p.end breaks continues 128 (λ x. omega (arith, x)) below_it n (λ x. omega (arith, x, size_least F l p w z refl)))
+      ∙ sym (passed_on rs tree_at p.end breaks continues 128 (λ x. omega (arith, x)) below_it n (λ x. omega (arith, x, size_least F l p w (omega arith) refl)))
   by_test false u =
       passed_stop rs tree_at p.end breaks continues 128 (λ x. omega (arith, x)) below_it (at_expr rs p.end breaks continues {row = row_in rs (p.end - 1)} refl expr_at u refl) refl
 

@@ -48,7 +48,7 @@ use Rattle.rows.specs.Rows.{cases_of}
 use Rattle.leaves.proofs.Args.{expr_any, expr_at}
 use Rattle.statement.proofs.Rows.{has_case_is, has_label_is, labels_is, cases_is, default_is}
 
-module _ {F : List ℕ} {l : Layout} {p : Part} {t : Node} (n : IsNode F l p t) where
+module _ {F : List ℕ} {l : Layout} {p : Part} {t : Node Part} (n : IsNode F l p t) where
   pub rec_is : (kid_at F p 0).rec ≡ rec_of F t.root
   rec_is = ap (λ (m : Meaning). m.rec) (kid_zero F l p n)
 
@@ -170,7 +170,7 @@ delta_at : (name : Str) (g m : ℕ) (ps : List Param) (t : Bool) → define_delt
 delta_at name g m ps true = refl
 delta_at name g m ps false = refl
 
-module _ {F : List ℕ} {l : Layout} {p : Part} {t : Node} (i : IsNode F l p t) {n g m : ℕ} (e : t.root ≡ kind.Expr (expr-kind.Function n g m)) where
+module _ {F : List ℕ} {l : Layout} {p : Part} {t : Node Part} (i : IsNode F l p t) {n g m : ℕ} (e : t.root ≡ kind.Expr (expr-kind.Function n g m)) where
   pub function_at : (d : Bool) → (kid_at F p 0).gen_expr d ≡ define_function (header_in F t.number) (gen_statements no_loop (list_at F t.children 0))
   function_at d =
       expr_at i d e ∙ rw (name_at (eqb n 0) (string_at F (layout_of F) (n - 1)), list_law 1 (trees F t.children), params_are (list 1 (trees F t.children)), ← i.function_header n g m e)

@@ -53,7 +53,7 @@ kept_top F l e lp lo x (suc u) q last h c =
     rw z (record { idle = c.0; up = c.1; room = c.2; within = c.3; kept = c.4 })
 
 -- a row, by its last tree
-module _ (F : List ℕ) (l : Layout) (p : Part) {t : Node} (i : IsNode F l p t) (h : 0 < p.n) where
+module _ (F : List ℕ) (l : Layout) (p : Part) {t : Node Part} (i : IsNode F l p t) (h : 0 < p.n) where
   pub labels_at_lem : {x : Element} → x ≡ element_of t.root → labels_of_forest (meanings_at F p) ≡ labels_of_forest (meanings_at F t.before) + is_labelled (meant x)
   labels_at_lem e = labels_more F l p i h ∙ rw (e, ← element_is (string_at F (layout_of F)) t.root, (one_is (element (rec_of F t.root))).0)
 

@@ -151,7 +151,7 @@ module _ {F : List ℕ} {l : Layout} {p : Part} {count : ℕ} {left : Part} (i :
   pub measured_done : left.n ≡ 0 → count ≡ meaning.width (trees F p)
   measured_done z = let w = rw (trees_none F left z) at i.whole in omega (arith, w)
 
-  module _ (z : left.n ≡ 0 → ⊥) where
+  module _ (z : 0 < left.n) where
     pub measured_few : count + 1 < 65536
     measured_few = omega (arith, i.small, i.fewer)
 
@@ -162,5 +162,5 @@ module _ {F : List ℕ} {l : Layout} {p : Part} {count : ℕ} {left : Part} (i :
       pub measured_next : Measured F l p (count + 1) rest
       measured_next =
           let g = is_node F l left i.within refl in
-          let w = rw (trees_more F l left g (omega arith)) at i.whole in
+          let w = rw (trees_more F l left g z) at i.whole in
           rw e (record { whole = omega (arith, w); within = g.rest_within; small = i.small; fewer = omega (arith, g.apart, i.fewer) })

@@ -30,7 +30,7 @@ unfolding meanings
 list_before n Forest.none = refl
 list_before n (more before r kids) = refl
 
-module _ (F : List ℕ) (l : Layout) (p : Part) {r : Node} (i : IsNode F l p r) where
+module _ (F : List ℕ) (l : Layout) (p : Part) {r : Node Part} (i : IsNode F l p r) where
   pub kid_zero : kid 0 (meanings (trees F p)) ≡ meaning (rec_of F r.root) (meanings (trees F r.children))
   kid_zero = kid_law 0 (trees F p) ∙ rw (i.root, i.kids)
 

@@ -30,13 +30,13 @@ trees F p = map_forest (rec_in F) (trees_in (rows_in F) p)
 abbrev pub rec_of : List ℕ → Record → Rec
 rec_of F r = resolved (string_at F (layout_of F)) r
 
-abbrev pub made_node : Tree → Node
+abbrev pub made_node : Tree → Node Part
 made_node t = record { root = record_of (words_of t.row); number = t.children.end; children = t.children; before = t.before }
 
-abbrev pub no_node : Part → Node
+abbrev pub no_node : Part → Node Part
 no_node p = record { root = kind.Absent; number = 0; children = p; before = p }
 
-unfoldable pub node_of : List ℕ → Layout → Part → Node
+unfoldable pub node_of : List ℕ → Layout → Part → Node Part
 node_of F l p = cond (eqb p.n 0) (no_node p) (made_node (last_tree (rows_of F l) p))
 
 -- the kind of the last tree, and that of an absent child where there is none
