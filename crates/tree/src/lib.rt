@@ -9,6 +9,7 @@ ghost use Rattle.tree.specs.Within.{Within, IsKid, IsList};
 
 use decode::record_of;
 use hir::Record;
+use script_records::kind::Kind;
 use script_records::layout::{Layout, Row, ScriptFile};
 use script_records::part::{Part, last_tree};
 
@@ -205,7 +206,7 @@ impl<'a> Trees<'a> {
         ensures { result ≡ kind_at (file_of self.now) self.now.script.layout self.now.part }
     {
         if self.is_empty() {
-            return 96;
+            return Kind::Absent as u32;
         }
         self.row().kind
     }
@@ -214,7 +215,7 @@ impl<'a> Trees<'a> {
     pub fn element(&self) -> Element
         ensures { result ≡ element_of (node_of (file_of self.now) self.now.script.layout self.now.part).root }
     {
-        if self.kind() < 100 {
+        if self.kind() < Kind::Case as u32 {
             return Element::Statement;
         }
         Element::from(self.node().root)
