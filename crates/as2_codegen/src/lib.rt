@@ -82,74 +82,19 @@ fn statements_of(l: Layout) -> Part
 }
 
 // Few records need little scratch, which takes less time to clear.
-fn with_tiny(
+fn with_scratch<const N: usize>(
     file: &[u8],
     l: Layout,
     p: Part,
     b: CodeBuilder,
     list: &mut [u32],
-    scratch: &mut [usize; 256],
 ) -> CodeBuilder
     requires generating { Generating file.now l p b list.old }
-    requires n_bound { p.n ≤ 256 }
+    requires n_bound { (p.n ≤ N) × (N ≤ 65536) }
     ensures { Does file.now (gen_statements no_loop (meanings_at file.now p)) b list.old tt result list.new }
 {
-    gen_statements(file, l, p, b, list, scratch, no_loop())
-}
-
-fn with_small(
-    file: &[u8],
-    l: Layout,
-    p: Part,
-    b: CodeBuilder,
-    list: &mut [u32],
-    scratch: &mut [usize; 4096],
-) -> CodeBuilder
-    requires generating { Generating file.now l p b list.old }
-    requires n_bound { p.n ≤ 4096 }
-    ensures { Does file.now (gen_statements no_loop (meanings_at file.now p)) b list.old tt result list.new }
-{
-    gen_statements(file, l, p, b, list, scratch, no_loop())
-}
-
-fn with_large(
-    file: &[u8],
-    l: Layout,
-    p: Part,
-    b: CodeBuilder,
-    list: &mut [u32],
-    scratch: &mut [usize; 65536],
-) -> CodeBuilder
-    requires { Generating file.now l p b list.old }
-    ensures { Does file.now (gen_statements no_loop (meanings_at file.now p)) b list.old tt result list.new }
-{
-    gen_statements(file, l, p, b, list, scratch, no_loop())
-}
-
-fn tiny(file: &[u8], l: Layout, p: Part, b: CodeBuilder, list: &mut [u32]) -> CodeBuilder
-    requires generating { Generating file.now l p b list.old }
-    requires n_bound { p.n ≤ 256 }
-    ensures { Does file.now (gen_statements no_loop (meanings_at file.now p)) b list.old tt result list.new }
-{
-    let mut scratch = [0usize; 256];
-    with_tiny(file, l, p, b, list, &mut scratch)
-}
-
-fn small(file: &[u8], l: Layout, p: Part, b: CodeBuilder, list: &mut [u32]) -> CodeBuilder
-    requires generating { Generating file.now l p b list.old }
-    requires n_bound { p.n ≤ 4096 }
-    ensures { Does file.now (gen_statements no_loop (meanings_at file.now p)) b list.old tt result list.new }
-{
-    let mut scratch = [0usize; 4096];
-    with_small(file, l, p, b, list, &mut scratch)
-}
-
-fn large(file: &[u8], l: Layout, p: Part, b: CodeBuilder, list: &mut [u32]) -> CodeBuilder
-    requires { Generating file.now l p b list.old }
-    ensures { Does file.now (gen_statements no_loop (meanings_at file.now p)) b list.old tt result list.new }
-{
-    let mut scratch = [0usize; 65536];
-    with_large(file, l, p, b, list, &mut scratch)
+    let mut scratch = [0usize; N];
+    gen_statements(file, l, p, b, list, &mut scratch, no_loop())
 }
 
 fn generate_actions(
@@ -163,12 +108,12 @@ fn generate_actions(
     ensures { Does file.now (gen_statements no_loop (meanings_at file.now p)) b list.old tt result list.new }
 {
     if 4096 < p.n {
-        return large(file, l, p, b, list);
+        return with_scratch::<65536>(file, l, p, b, list);
     }
     if 256 < p.n {
-        return small(file, l, p, b, list);
+        return with_scratch::<4096>(file, l, p, b, list);
     }
-    tiny(file, l, p, b, list)
+    with_scratch::<256>(file, l, p, b, list)
 }
 
 // The statements are generated into words of zeros, which take in the pool's index behind those of the list slice: 0, or the refusal.
