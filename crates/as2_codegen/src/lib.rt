@@ -3,7 +3,7 @@
 // A script file is lowered (`as2_codegen.rs`, `script_to_actions`): checked first, then its statements generated into the list slice.
 ghost use Rattle.std.specs.Prelude.{◌≡◌, List, ℕ, ◌≤◌, length};
 ghost use Rattle.script_records.specs.Layout.{layout_of};
-ghost use Rattle.script.specs.Rules.{check_of, refusal_of};
+ghost use Rattle.script.specs.Rules.{check_of};
 ghost use Rattle.lowering.specs.Builder.{limits01};
 ghost use Rattle.lowering.specs.Statement.{no_loop, gen_statements};
 ghost use Rattle.list_slice.specs.Words.{zeros_of};
@@ -17,7 +17,6 @@ use builder::entries::put;
 use builder::finish::into_actions;
 use codegen_state::CodeBuilder;
 use rows::no_loop;
-use script::Answer;
 use script_records::layout::{Layout, layout_of};
 use script_records::part::Part;
 use statement::gen_statements;
@@ -28,19 +27,6 @@ use zeros::clear_words;
 pub enum Lowered {
     Lists,
     Refused(u32),
-}
-
-// Document 01's number, 0 for an accepted file.
-fn number_of(a: Answer) -> u32
-    ensures { result ≡ refusal_of a }
-{
-    match a {
-        Answer::Accepted => 0,
-        Answer::BrokenRule => 1,
-        Answer::NotUtf8 => 2,
-        Answer::Unsupported => 3,
-        Answer::OverLimit => 4,
-    }
 }
 
 // The pool's place is kept, as action 1; `Constants::empty` sets the pool's total to 2.
@@ -227,9 +213,8 @@ pub fn script_to_actions(file: &[u8], list: &mut [u32]) -> Lowered
     if list.len() < 16384 {
         return Lowered::Refused(13);
     }
-    let number = number_of(script::check(file));
-    if number != 0 {
-        return Lowered::Refused(number);
+    if let Err(refusal) = script::check(file) {
+        return Lowered::Refused(refusal.number());
     }
     lower(file, list)
 }

@@ -1,33 +1,21 @@
 #![tactic(auto)]
 
 // Checks script files that stand in a text, a line `NAME BYTES` for each, and prints a line `NAME ANSWER`.
-ghost use Rattle.std.specs.Prelude.{◌≤◌, ◌≡◌};
-ghost use Rattle.script.specs.Rules.{check_of, refusal_of};
+ghost use Rattle.std.specs.Prelude.{◌≡◌};
+ghost use Rattle.script.specs.Rules.{check_of};
 
-use script::Answer;
 use std::io;
 use std::io::{BufWriter, Read, Write};
 use text_lines::{decode, find};
 
 // Document 01's number, 0 for an accepted file.
-fn number_of(a: Answer) -> u8
-    ensures value { result ≡ refusal_of a }
-    ensures upper_bound { result ≤ 4 }
+fn answer(file: &[u8]) -> u32
+    ensures { result ≡ check_of file.now }
 {
-    match a {
-        Answer::Accepted => 0,
-        Answer::BrokenRule => 1,
-        Answer::NotUtf8 => 2,
-        Answer::Unsupported => 3,
-        Answer::OverLimit => 4,
+    match script::check(file) {
+        Ok(()) => 0,
+        Err(refusal) => refusal.number(),
     }
-}
-
-fn answer(file: &[u8]) -> u8
-    ensures value { result ≡ check_of file.now }
-    ensures upper_bound { result ≤ 4 }
-{
-    number_of(script::check(file))
 }
 
 // One line: the file's bytes go into `file`, whose other bytes are left as they are.
@@ -42,8 +30,7 @@ fn check_line<W: Write>(line: &[u8], file: &mut [u8], out: &mut W) -> io::Result
         return out.write_all(b" not decoded\n");
     }
     let n = p.bytes;
-    let r = answer(&file[0..n]);
-    out.write_all(&[b' ', b'0' + r, b'\n'])
+    writeln!(out, " {}", answer(&file[0..n]))
 }
 
 fn check_lines<W: Write>(text: &[u8], file: &mut [u8], out: &mut W) -> io::Result<()> {

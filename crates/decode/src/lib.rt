@@ -321,30 +321,19 @@ pub fn record_of(r: Row) -> Record
     }
 }
 
-// A function's name: the index of its string, or none.
-#[derive(Clone, Copy)]
-pub enum Name {
-    Index(u32),
-    None,
-}
-
-// A function's record. The marks in declaration order: preload_this, suppress_this, preload_arguments, suppress_arguments, preload_super,
+// A function's record. Its name is the index of a string. The marks in declaration order: preload_this, suppress_this, preload_arguments, suppress_arguments, preload_super,
 // suppress_super, preload_root, preload_parent, preload_global.
 #[derive(Clone, Copy)]
 pub struct Function {
-    pub name: Name,
+    pub name: Option<u32>,
     pub register_count: u8,
     pub marks: [bool; 9],
 }
 
-fn name_of(a: u32) -> Name
+fn name_of(a: u32) -> Option<u32>
     ensures { result ≡ name_of a }
 {
-    if a == 0 {
-        Name::None
-    } else {
-        Name::Index(a - 1)
-    }
+    a.checked_sub(1)
 }
 
 // The record of a function, whose words hold its name, its register count and its marks.
