@@ -1,6 +1,6 @@
 -- The parts of a header, one after the other.
 use Prim.Native.Nat.{ℕ, ◌+◌, ◌≤◌}
-use mathlib.Core.Path.{◌≡◌, refl, sym, ap, ◌∙◌}
+use mathlib.Core.Path.{◌≡◌, refl, ap, ◌∙◌}
 use mathlib.Core.List.{[], ◌∷◌, ◌++◌}
 use native.Mathlib.Omega.{arith}
 use native.Mathlib.Numerals.{add-one}
@@ -26,7 +26,7 @@ params_width none = refl
 params_width (more ps p kids) = length-append (params_of ps) (param p ∷ []) ∙ (ap (λ (n : ℕ). n + 1) (params_width ps) ∙ add-one (width ps))
 
 -- in the writer w, of the trees in part p of the records of a script file s, which is the writer's
-module _ (w : Writer) (f : Function) (s : ScriptFile) (e : s ≡ w.script) (p : Part) (size : ℕ) {n : ℕ} (q : n ≡ name_reference f.name) where
+module _ (w : Writer) (f : Function) (s : ScriptFile) (p : Part) (size : ℕ) {n : ℕ} (q : n ≡ name_reference f.name) where
   abbrev header' : Bytes
   header' = header_data w.script.bytes.now w.script.layout f (params_of (trees s.bytes.now p)) size
 
@@ -81,9 +81,6 @@ module _ (w : Writer) (f : Function) (s : ScriptFile) (e : s ≡ w.script) (p : 
         module _ {w₃ : Writer} (d₃ : Writes w₂ marks' w₃) where
           rest₃ : HasRoom w₃ (params' ++ size')
           rest₃ = has_rest (params' ++ size') d₃ rest₂
-
-          pub same_file : s ≡ w₃.script
-          same_file = e ∙ sym (d₃.same_script ∙ d₂.same_script ∙ d₁.same_script)
 
           pub params_room : HasRoom w₃ params'
           params_room = has_first w₃ params' size' rest₃

@@ -11,9 +11,6 @@ loop-left-init c = record {
   backward = backward_start _ _ c.args.wide c.args.params.now.within (omega (arith, c.params_size.ensures));
 }
 
-pub param_size-begun-requires : goal.param_size-begun-requires
-param_size-begun-requires c = record { layout = c.loop-left.left.within.layout; short = c.loop-left.left.within.sound.short }
-
 pub overflow_sub-begun : goal.overflow_sub-begun
 overflow_sub-begun c =
     let i = c.loop-left.invariant in

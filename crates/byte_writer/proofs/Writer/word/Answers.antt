@@ -1,13 +1,6 @@
-use Rattle.std.proofs.Common.{◌≡◌, refl, arith}
-use Rattle.byte_writer.proofs.Loops.{word_length, number_start, number_next, number_done}
+use Rattle.std.proofs.Common.{◌≡◌, arith}
+use Rattle.byte_writer.proofs.Loops.{word_length, number_next, number_done}
 use Rattle.byte_writer.proofs.Writer.word.Goals as goal
-
-pub loop-i-init : goal.loop-i-init
-loop-i-init c = record {
-  same_script = refl;
-  same_output = refl;
-  left = number_start c.args.self.now.output.now c.args.self.now.at c.args.k c.args.n;
-}
 
 pub bounds-self-at : goal.bounds-self-at
 bounds-self-at c = omega (arith, c.loop-i.invariant.left.long, word_length c.args.k c.args.n)

@@ -8,8 +8,5 @@ overflow_mul-word c = omega (arith, c.loop-i.invariant, bits_fit c.args.marks c.
 pub overflow_add-word : goal.overflow_add-word
 overflow_add-word c = omega (arith, c.loop-i.invariant, c.from.ensures, bits_fit c.args.marks c.loop-i.i, bits_fit c.args.marks (c.loop-i.i - 1), bits_more c.args.marks c.loop-i.i (omega arith) (omega arith), from_is (get_or c.args.marks (c.loop-i.i - 1) false))
 
-pub loop-i-preserved : goal.loop-i-preserved
-loop-i-preserved c = rw (c.loop-i.invariant, c.from.ensures, from_is, bits_more c.args.marks c.loop-i.i (omega arith) (omega arith))
-
 pub returns : goal.returns
 returns c = let e : c.loop-i.i ≡ 0 = omega arith in rw e at c.loop-i.invariant ∙ bits_all c.args.marks

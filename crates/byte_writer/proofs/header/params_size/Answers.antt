@@ -1,13 +1,7 @@
-use Rattle.std.proofs.Common.{refl, ◌∙◌, arith}
+use Rattle.std.proofs.Common.{◌∙◌, arith}
 use Rattle.tree.proofs.Nodes.{no_trees, some_trees}
-use Rattle.byte_writer.proofs.ParamLoops.{sized_start, sized_done, sized_fits, sized_next, params_less}
+use Rattle.byte_writer.proofs.ParamLoops.{sized_done, sized_fits, sized_next, params_less}
 use Rattle.byte_writer.proofs.header.params_size.Goals as goal
-
-pub loop-left-init : goal.loop-left-init
-loop-left-init c = (refl, sized_start _ _ c.args.wide c.args.params.now.within)
-
-pub param_size-size-requires : goal.param_size-size-requires
-param_size-size-requires c = record { layout = c.loop-left.left.within.layout; short = c.loop-left.left.within.sound.short }
 
 pub overflow_add-size : goal.overflow_add-size
 overflow_add-size c =
