@@ -37,6 +37,11 @@ missed : (o : Option Kind) (e : UnknownKind) {x : UnknownKind} → ok_or o e ≡
 missed None e h = refl
 missed (Some j) e h = cc
 
+-- a word that is no kind has no place of its own
+pub none_from : (n : ℕ) {e : UnknownKind} → kind_from n ≡ Err e → get_or kinds n None ≡ None
+unfolding kind_from
+none_from n h = missed (get_or kinds n None) _ h
+
 -- a word that is a kind is its number
 pub number_from : (n : ℕ) {k : Kind} → kind_from n ≡ Ok k → n ≡ number_of k
 unfolding kind_from own
