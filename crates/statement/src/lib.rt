@@ -169,8 +169,7 @@ fn one(
                     let b3 = action(list, b2, Op::StrictEquals);
                     branch(list, b3, Label(first + seen))
                 }
-                Element::Default => b,
-                Element::Statement => b,
+                Element::Default | Element::Statement => b,
             }
         }
         Each::Element => {
@@ -242,14 +241,7 @@ fn gen_statement(
             StatementKind::Continue => jump_to(list, b, continue_to),
             StatementKind::Switch => gen_switch(&kids, b, list, scratch, lp),
         },
-        Record::Expr(kind) => b,
-        Record::Absent => b,
-        Record::List(n) => b,
-        Record::ObjectField(key) => b,
-        Record::Parameter { name, register } => b,
-        Record::Case => b,
-        Record::Default => b,
-        Record::Other => b,
+        _ => b,
     }
 }
 
@@ -549,14 +541,8 @@ fn gen_expr(
                 action(list, b3, Op::SetProperty)
             }
         },
-        Record::Case => gen_expr(&kids, b, list, scratch, discard),
-        Record::ObjectField(key) => gen_expr(&kids, b, list, scratch, discard),
-        Record::Statement(kind) => b,
-        Record::Absent => b,
-        Record::List(n) => b,
-        Record::Parameter { name, register } => b,
-        Record::Default => b,
-        Record::Other => b,
+        Record::Case | Record::ObjectField(_) => gen_expr(&kids, b, list, scratch, discard),
+        _ => b,
     }
 }
 

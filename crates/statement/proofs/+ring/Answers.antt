@@ -22,7 +22,7 @@ use Rattle.builder.proofs.Body.{begun_fine, begun_named, ready, function_done}
 use Rattle.access.proofs.Texts.{text_is}
 use Rattle.rows.specs.Rows.{loop_of}
 use Rattle.leaves.proofs.Args.{some_left, expr_at, args_again, args_less, args_stopped, args_done}
-use Rattle.statement.proofs.Laws.{rec_is, element_at, case_at, field_at, no_expr, statement_at, no_statement, access_at, literal_of, none_at, labels_counted, labels_less, default_less, switching, no_labels, some_labels, function_at, function_size, literal_named, field_live, number_less, rank_least, rank_most, rank_kept}
+use Rattle.statement.proofs.Laws.{rec_is, element_at, value_at, value_live, no_expr, statement_at, no_statement, untested, access_at, literal_of, none_at, labels_counted, labels_less, default_less, switching, no_labels, some_labels, function_at, function_size, literal_named, field_live, number_less, rank_least, rank_most, rank_kept}
 use Rattle.statement.proofs.Lists.{pop_holds, pop_top, pop_inside, pop_fits, pop_below, pop_few, pop_again, pop_stopped, pop_done, element_few}
 use mir.ValLaws.{to_z-of_z}
 use mir.Syntax.{w32}
@@ -616,10 +616,7 @@ pub gen_expr-action-requires-in-SetProperty : goal.gen_expr-action-requires-in-S
 gen_expr-action-requires-in-SetProperty t c = c.gen_expr-b3.ensures.fine
 
 pub gen_expr-gen_expr-requires : goal.gen_expr-gen_expr-requires
-gen_expr-gen_expr-requires t c = (omega (arith, c.decreases, c.requires.fits, (is_node _ _ _ c.args.t.now.within c.node-node.ensures.node).apart, (is_node _ _ _ c.args.t.now.within c.node-node.ensures.node).real, ap live c.in-Case.is), record { fits = omega (arith, c.decreases, c.requires.fits, (is_node _ _ _ c.args.t.now.within c.node-node.ensures.node).apart, (is_node _ _ _ c.args.t.now.within c.node-node.ensures.node).real, ap live c.in-Case.is); fine = c.requires.fine; named = rw c.node-node.ensures.children c.requires.named })
-
-pub gen_expr-gen_expr-requires-in-ObjectField : goal.gen_expr-gen_expr-requires-in-ObjectField
-gen_expr-gen_expr-requires-in-ObjectField t c = (omega (arith, c.decreases, c.requires.fits, (is_node _ _ _ c.args.t.now.within c.node-node.ensures.node).apart, (is_node _ _ _ c.args.t.now.within c.node-node.ensures.node).real, ap live c.in-ObjectField.is), record { fits = omega (arith, c.decreases, c.requires.fits, (is_node _ _ _ c.args.t.now.within c.node-node.ensures.node).apart, (is_node _ _ _ c.args.t.now.within c.node-node.ensures.node).real, ap live c.in-ObjectField.is); fine = c.requires.fine; named = rw c.node-node.ensures.children c.requires.named })
+gen_expr-gen_expr-requires t c = (omega (arith, c.decreases, c.requires.fits, (is_node _ _ _ c.args.t.now.within c.node-node.ensures.node).apart, (is_node _ _ _ c.args.t.now.within c.node-node.ensures.node).real, value_live c.in-Case.is), record { fits = omega (arith, c.decreases, c.requires.fits, (is_node _ _ _ c.args.t.now.within c.node-node.ensures.node).apart, (is_node _ _ _ c.args.t.now.within c.node-node.ensures.node).real, value_live c.in-Case.is); fine = c.requires.fine; named = rw c.node-node.ensures.children c.requires.named })
 
 pub gen_expr-shape_of-list-in-Constant : goal.gen_expr-shape_of-list-in-Constant
 gen_expr-shape_of-list-in-Constant t c = c.read_constant.auto.list
@@ -781,40 +778,7 @@ pub gen_expr-shape_of-scratch-in-Case : goal.gen_expr-shape_of-scratch-in-Case
 gen_expr-shape_of-scratch-in-Case t c = c.gen_expr.auto.scratch
 
 pub gen_expr-returns-in-Case : goal.gen_expr-returns-in-Case
-gen_expr-returns-in-Case t c = rw (case_at (is_node _ _ _ c.args.t.now.within c.node-node.ensures.node) c.args.discard c.in-Case.is) (rw c.node-node.ensures.children at c.gen_expr.ensures)
-
-pub gen_expr-shape_of-list-in-ObjectField : goal.gen_expr-shape_of-list-in-ObjectField
-gen_expr-shape_of-list-in-ObjectField t c = c.gen_expr-in-ObjectField.auto.list
-
-pub gen_expr-shape_of-scratch-in-ObjectField : goal.gen_expr-shape_of-scratch-in-ObjectField
-gen_expr-shape_of-scratch-in-ObjectField t c = c.gen_expr-in-ObjectField.auto.scratch
-
-pub gen_expr-returns-in-ObjectField : goal.gen_expr-returns-in-ObjectField
-gen_expr-returns-in-ObjectField t c = rw (field_at (is_node _ _ _ c.args.t.now.within c.node-node.ensures.node) c.args.discard c.in-ObjectField.is) (rw c.node-node.ensures.children at c.gen_expr-in-ObjectField.ensures)
-
-pub gen_expr-returns-in-Statement : goal.gen_expr-returns-in-Statement
-unfolding resolved
-gen_expr-returns-in-Statement t c = rw (no_expr (is_node _ _ _ c.args.t.now.within c.node-node.ensures.node) c.args.discard c.in-Statement.is refl) (idle c.requires.fine)
-
-pub gen_expr-returns-in-Absent : goal.gen_expr-returns-in-Absent
-unfolding resolved
-gen_expr-returns-in-Absent t c = rw (no_expr (is_node _ _ _ c.args.t.now.within c.node-node.ensures.node) c.args.discard c.in-Absent.is refl) (idle c.requires.fine)
-
-pub gen_expr-returns-in-List : goal.gen_expr-returns-in-List
-unfolding resolved
-gen_expr-returns-in-List t c = rw (no_expr (is_node _ _ _ c.args.t.now.within c.node-node.ensures.node) c.args.discard c.in-List.is refl) (idle c.requires.fine)
-
-pub gen_expr-returns-in-Parameter : goal.gen_expr-returns-in-Parameter
-unfolding resolved
-gen_expr-returns-in-Parameter t c = rw (no_expr (is_node _ _ _ c.args.t.now.within c.node-node.ensures.node) c.args.discard c.in-Parameter.is refl) (idle c.requires.fine)
-
-pub gen_expr-returns-in-Default : goal.gen_expr-returns-in-Default
-unfolding resolved
-gen_expr-returns-in-Default t c = rw (no_expr (is_node _ _ _ c.args.t.now.within c.node-node.ensures.node) c.args.discard c.in-Default.is refl) (idle c.requires.fine)
-
-pub gen_expr-returns-in-Other : goal.gen_expr-returns-in-Other
-unfolding resolved
-gen_expr-returns-in-Other t c = rw (no_expr (is_node _ _ _ c.args.t.now.within c.node-node.ensures.node) c.args.discard c.in-Other.is refl) (idle c.requires.fine)
+gen_expr-returns-in-Case t c = rw (value_at (is_node _ _ _ c.args.t.now.within c.node-node.ensures.node) c.args.discard c.in-Case.is) (rw c.node-node.ensures.children at c.gen_expr.ensures)
 
 pub gen_for_loop-gen_expr-cur-requires : goal.gen_for_loop-gen_expr-cur-requires
 gen_for_loop-gen_expr-cur-requires t c = (omega (arith, c.decreases, c.requires.walk.fits, c.kid-object.ensures.kid.fewer), record { fits = omega (arith, c.decreases, c.requires.walk.fits, c.kid-object.ensures.kid.fewer); fine = (c.create_label-b2.ensures (file_of c.args.t.now) _ (c.create_label-b1.ensures (file_of c.args.t.now) _ c.requires.walk.fine).fine).fine; named = rw c.kid-object.ensures.script ((c.create_label-b2.ensures (file_of c.args.t.now) _ (c.create_label-b1.ensures (file_of c.args.t.now) _ c.requires.walk.fine).fine).named ((c.create_label-b1.ensures (file_of c.args.t.now) _ c.requires.walk.fine).named c.requires.walk.named)) })
@@ -1073,14 +1037,14 @@ gen_statement-shape_of-scratch-in-Throw t c = c.exit-in-Throw.auto.scratch
 pub gen_statement-returns-in-Throw : goal.gen_statement-returns-in-Throw
 gen_statement-returns-in-Throw t c = rw (statement_at (is_node _ _ _ c.args.t.now.within c.node-node.ensures.node) (loop_of c.args.lp) c.in-Statement.is, c.in-Throw.is) (rw c.node-node.ensures.children at c.exit-in-Throw.ensures)
 
-pub gen_statement-shape_of-list-in-Expr-kind : goal.gen_statement-shape_of-list-in-Expr-kind
-gen_statement-shape_of-list-in-Expr-kind t c = c.truncate_stack.auto.list ∙ c.gen_expr-b1.auto.list
+pub gen_statement-shape_of-list-in-Expr : goal.gen_statement-shape_of-list-in-Expr
+gen_statement-shape_of-list-in-Expr t c = c.truncate_stack.auto.list ∙ c.gen_expr-b1.auto.list
 
-pub gen_statement-shape_of-scratch-in-Expr-kind : goal.gen_statement-shape_of-scratch-in-Expr-kind
-gen_statement-shape_of-scratch-in-Expr-kind t c = c.gen_expr-b1.auto.scratch
+pub gen_statement-shape_of-scratch-in-Expr : goal.gen_statement-shape_of-scratch-in-Expr
+gen_statement-shape_of-scratch-in-Expr t c = c.gen_expr-b1.auto.scratch
 
-pub gen_statement-returns-in-Expr-kind : goal.gen_statement-returns-in-Expr-kind
-gen_statement-returns-in-Expr-kind t c = rw (statement_at (is_node _ _ _ c.args.t.now.within c.node-node.ensures.node) (loop_of c.args.lp) c.in-Statement.is, c.in-Expr-kind.is) (void_arm c.args.t.now.script.layout c.node-node.result.children.part (rw c.node-node.ensures.children at c.gen_expr-b1.ensures) (c.truncate_stack.ensures (file_of c.args.t.now)))
+pub gen_statement-returns-in-Expr : goal.gen_statement-returns-in-Expr
+gen_statement-returns-in-Expr t c = rw (statement_at (is_node _ _ _ c.args.t.now.within c.node-node.ensures.node) (loop_of c.args.lp) c.in-Statement.is, c.in-Expr.is) (void_arm c.args.t.now.script.layout c.node-node.result.children.part (rw c.node-node.ensures.children at c.gen_expr-b1.ensures) (c.truncate_stack.ensures (file_of c.args.t.now)))
 
 pub gen_statement-shape_of-list-in-Block : goal.gen_statement-shape_of-list-in-Block
 gen_statement-shape_of-list-in-Block t c = c.truncate_stack-in-Block.auto.list ∙ c.gen_statements-b1.auto.list
@@ -1138,38 +1102,6 @@ gen_statement-shape_of-scratch-in-Switch t c = c.gen_switch.auto.scratch
 
 pub gen_statement-returns-in-Switch : goal.gen_statement-returns-in-Switch
 gen_statement-returns-in-Switch t c = rw (statement_at (is_node _ _ _ c.args.t.now.within c.node-node.ensures.node) (loop_of c.args.lp) c.in-Statement.is, c.in-Switch.is) (rw c.node-node.ensures.children at c.gen_switch.ensures)
-
-pub gen_statement-returns-in-Expr : goal.gen_statement-returns-in-Expr
-unfolding resolved
-gen_statement-returns-in-Expr t c = rw (no_statement (is_node _ _ _ c.args.t.now.within c.node-node.ensures.node) (loop_of c.args.lp) c.in-Expr.is refl) (idle c.requires.fine)
-
-pub gen_statement-returns-in-Absent : goal.gen_statement-returns-in-Absent
-unfolding resolved
-gen_statement-returns-in-Absent t c = rw (no_statement (is_node _ _ _ c.args.t.now.within c.node-node.ensures.node) (loop_of c.args.lp) c.in-Absent.is refl) (idle c.requires.fine)
-
-pub gen_statement-returns-in-List : goal.gen_statement-returns-in-List
-unfolding resolved
-gen_statement-returns-in-List t c = rw (no_statement (is_node _ _ _ c.args.t.now.within c.node-node.ensures.node) (loop_of c.args.lp) c.in-List.is refl) (idle c.requires.fine)
-
-pub gen_statement-returns-in-ObjectField : goal.gen_statement-returns-in-ObjectField
-unfolding resolved
-gen_statement-returns-in-ObjectField t c = rw (no_statement (is_node _ _ _ c.args.t.now.within c.node-node.ensures.node) (loop_of c.args.lp) c.in-ObjectField.is refl) (idle c.requires.fine)
-
-pub gen_statement-returns-in-Parameter : goal.gen_statement-returns-in-Parameter
-unfolding resolved
-gen_statement-returns-in-Parameter t c = rw (no_statement (is_node _ _ _ c.args.t.now.within c.node-node.ensures.node) (loop_of c.args.lp) c.in-Parameter.is refl) (idle c.requires.fine)
-
-pub gen_statement-returns-in-Case : goal.gen_statement-returns-in-Case
-unfolding resolved
-gen_statement-returns-in-Case t c = rw (no_statement (is_node _ _ _ c.args.t.now.within c.node-node.ensures.node) (loop_of c.args.lp) c.in-Case.is refl) (idle c.requires.fine)
-
-pub gen_statement-returns-in-Default : goal.gen_statement-returns-in-Default
-unfolding resolved
-gen_statement-returns-in-Default t c = rw (no_statement (is_node _ _ _ c.args.t.now.within c.node-node.ensures.node) (loop_of c.args.lp) c.in-Default.is refl) (idle c.requires.fine)
-
-pub gen_statement-returns-in-Other : goal.gen_statement-returns-in-Other
-unfolding resolved
-gen_statement-returns-in-Other t c = rw (no_statement (is_node _ _ _ c.args.t.now.within c.node-node.ensures.node) (loop_of c.args.lp) c.in-Other.is refl) (idle c.requires.fine)
 
 pub gen_statements-has_hoisted-requires : goal.gen_statements-has_hoisted-requires
 gen_statements-has_hoisted-requires t c = c.args.t.now.within
@@ -1566,10 +1498,10 @@ pub one-mark_default-requires : goal.one-mark_default-requires
 one-mark_default-requires t c = c.requires.walk.fine
 
 pub one-returns-then-seen-eq0 : goal.one-returns-then-seen-eq0
-one-returns-then-seen-eq0 t c = rw (c.in-Element.is, element_at (is_node _ _ _ c.args.t.now.within refl) c.element-e-in-Element.ensures, c.in-Statement-e-2.is, c.if-seen-eq0.true) (idle c.requires.walk.fine)
+one-returns-then-seen-eq0 t c = rw (c.in-Element.is, element_at (is_node _ _ _ c.args.t.now.within refl) c.element-e-in-Element.ensures, c.in-Statement-e.is, c.if-seen-eq0.true) (idle c.requires.walk.fine)
 
-pub one-gen_statement-requires-in-Statement-e-2 : goal.one-gen_statement-requires-in-Statement-e-2
-one-gen_statement-requires-in-Statement-e-2 t c = (omega (arith, c.decreases, c.requires.walk.fits), record { fits = omega (arith, c.decreases, c.requires.walk.fits); fine = c.requires.walk.fine; named = c.requires.walk.named })
+pub one-gen_statement-requires-in-Statement-e : goal.one-gen_statement-requires-in-Statement-e
+one-gen_statement-requires-in-Statement-e t c = (omega (arith, c.decreases, c.requires.walk.fits), record { fits = omega (arith, c.decreases, c.requires.walk.fits); fine = c.requires.walk.fine; named = c.requires.walk.named })
 
 pub one-shape_of-list-in-Expr : goal.one-shape_of-list-in-Expr
 one-shape_of-list-in-Expr t c = c.gen_expr.auto.list
@@ -1629,10 +1561,7 @@ pub one-returns-in-Case : goal.one-returns-in-Case
 one-returns-in-Case t c = rw (c.in-Conditional.is, element_at (is_node _ _ _ c.args.t.now.within refl) c.element-e.ensures, c.in-Case.is) (test_arm c.args.t.now.script.layout c.args.t.now.part c.args.first c.args.seen c.args.cases (c.push_if-b1.ensures (file_of c.args.t.now)) c.gen_expr-b2.ensures (c.action-b3.ensures (file_of c.args.t.now)) (c.branch-list.ensures (file_of c.args.t.now)))
 
 pub one-returns-in-Default : goal.one-returns-in-Default
-one-returns-in-Default t c = rw (c.in-Conditional.is, element_at (is_node _ _ _ c.args.t.now.within refl) c.element-e.ensures, c.in-Default.is) (idle c.requires.walk.fine)
-
-pub one-returns-in-Statement-e : goal.one-returns-in-Statement-e
-one-returns-in-Statement-e t c = rw (c.in-Conditional.is, element_at (is_node _ _ _ c.args.t.now.within refl) c.element-e.ensures, c.in-Statement-e.is) (idle c.requires.walk.fine)
+one-returns-in-Default t c = rw (c.in-Conditional.is, untested _ _ _ _ (element_at (is_node _ _ _ c.args.t.now.within refl) c.element-e.ensures) c.in-Default.is) (idle c.requires.walk.fine)
 
 pub one-shape_of-list-in-Case-e : goal.one-shape_of-list-in-Case-e
 one-shape_of-list-in-Case-e t c = c.mark_label.auto.list
@@ -1647,10 +1576,16 @@ pub one-returns-in-Default-e : goal.one-returns-in-Default-e
 one-returns-in-Default-e t c = rw (c.in-Element.is, element_at (is_node _ _ _ c.args.t.now.within refl) c.element-e-in-Element.ensures, c.in-Default-e.is) (c.mark_default.ensures (file_of c.args.t.now))
 
 pub one-shape_of-list-else-seen-eq0 : goal.one-shape_of-list-else-seen-eq0
-one-shape_of-list-else-seen-eq0 t c = c.gen_statement-in-Statement-e-2.auto.list
+one-shape_of-list-else-seen-eq0 t c = c.gen_statement-in-Statement-e.auto.list
 
 pub one-shape_of-scratch-else-seen-eq0 : goal.one-shape_of-scratch-else-seen-eq0
-one-shape_of-scratch-else-seen-eq0 t c = c.gen_statement-in-Statement-e-2.auto.scratch
+one-shape_of-scratch-else-seen-eq0 t c = c.gen_statement-in-Statement-e.auto.scratch
 
 pub one-returns-else-seen-eq0 : goal.one-returns-else-seen-eq0
-one-returns-else-seen-eq0 t c = rw (c.in-Element.is, element_at (is_node _ _ _ c.args.t.now.within refl) c.element-e-in-Element.ensures, c.in-Statement-e-2.is, lt-ltb 0 c.args.seen (omega (arith, c.if-seen-eq0.false))) c.gen_statement-in-Statement-e-2.ensures
+one-returns-else-seen-eq0 t c = rw (c.in-Element.is, element_at (is_node _ _ _ c.args.t.now.within refl) c.element-e-in-Element.ensures, c.in-Statement-e.is, lt-ltb 0 c.args.seen (omega (arith, c.if-seen-eq0.false))) c.gen_statement-in-Statement-e.ensures
+
+pub gen_expr-returns-in_default : goal.gen_expr-returns-in_default
+gen_expr-returns-in_default t c = rw (no_expr (is_node _ _ _ c.args.t.now.within c.node-node.ensures.node) c.args.discard c.in_default.not-Expr c.in_default.not-Case c.in_default.not-ObjectField) (idle c.requires.fine)
+
+pub gen_statement-returns-in_default : goal.gen_statement-returns-in_default
+gen_statement-returns-in_default t c = rw (no_statement (is_node _ _ _ c.args.t.now.within c.node-node.ensures.node) (loop_of c.args.lp) c.in_default.not-Statement) (idle c.requires.fine)
