@@ -82,15 +82,14 @@ fn each(
         return b;
     }
     let start = t.part.end - t.part.n;
-    let mut top = ends_of(t.script.bytes, t.script.layout, t.part, scratch, what, lp);
+    let count = ends_of(t.script.bytes, t.script.layout, t.part, scratch, what, lp);
     let mut cur = b;
     let mut seen: u32 = 0;
     let mut cases: u32 = 0;
-    while top != 0 {
+    for top in (0..count).rev() {
         if cur.refused != 0 {
             return cur;
         }
-        top -= 1;
         let end = scratch[top];
         let trees = Trees {
             script: t.script,
@@ -112,8 +111,8 @@ fn each(
             cases,
         );
         let e = trees.element();
-        seen = seen + is_labelled(e);
-        cases = cases + is_case(e);
+        seen += is_labelled(e);
+        cases += is_case(e);
     }
     cur
 }

@@ -9,7 +9,7 @@ use Rattle.pcode.specs.declared.Op.TheVariants.{GetMember}
 use Rattle.script_records.specs.declared.part.Part.{Part}
 use Rattle.script_records.specs.Layout.{layout_of, string_at}
 use Rattle.decode.specs.Numbers.{unsigned}
-use Rattle.script.specs.Resolve.{resolved, target_over}
+use Rattle.script.specs.Resolve.{target_over}
 use Rattle.lowering.specs.Meaning.{present}
 use Rattle.list_slice.specs.File.{text_in}
 use Rattle.codegen_state.proofs.Steps.{idle, stays}
@@ -164,71 +164,65 @@ each-returns-then-b-ne0 t c = stays c.if-b-ne0.true c.requires.walk.fine
 pub each-overflow_sub-start : goal.each-overflow_sub-start
 each-overflow_sub-start t c = omega (arith, c.args.t.now.within.inside)
 
-pub each-ends_of-top-requires : goal.each-ends_of-top-requires
-each-ends_of-top-requires t c = record {
+pub each-ends_of-count-requires : goal.each-ends_of-count-requires
+each-ends_of-count-requires t c = record {
   within = c.args.t.now.within;
   n_in_bounds = c.requires.walk.fits;
 }
 
 pub each-loop-top-init : goal.each-loop-top-init
-each-loop-top-init t c = λ last r k. pop_holds c.args.what (loop_of c.args.lp) c.args.first c.args.default _ last _ _ _ _ c.requires.walk.fine r k
+each-loop-top-init t c = pop_holds c.requires.walk.fine (omega (arith, c.requires.walk.fits, c.args.t.now.within.inside, c.ends_of-count.auto.scratch)) c.ends_of-count.ensures
 
 pub each-shape_of-list-then-cur-ne0 : goal.each-shape_of-list-then-cur-ne0
-each-shape_of-list-then-cur-ne0 t c = (c.loop-top.invariant c.args.t.now.part.end (omega (arith, c.requires.walk.fits, c.args.t.now.within.inside, c.ends_of-top.auto.scratch)) c.ends_of-top.ensures).list
+each-shape_of-list-then-cur-ne0 t c = c.loop-top.invariant.list
 
 pub each-shape_of-scratch-then-cur-ne0 : goal.each-shape_of-scratch-then-cur-ne0
-each-shape_of-scratch-then-cur-ne0 t c = (c.loop-top.invariant c.args.t.now.part.end (omega (arith, c.requires.walk.fits, c.args.t.now.within.inside, c.ends_of-top.auto.scratch)) c.ends_of-top.ensures).scratch ∙ c.ends_of-top.auto.scratch
+each-shape_of-scratch-then-cur-ne0 t c = c.loop-top.invariant.scratch ∙ c.ends_of-count.auto.scratch
 
 pub each-returns-then-cur-ne0 : goal.each-returns-then-cur-ne0
-each-returns-then-cur-ne0 t c = pop_stopped c.args.what (loop_of c.args.lp) c.args.first c.args.default (c.loop-top.invariant c.args.t.now.part.end (omega (arith, c.requires.walk.fits, c.args.t.now.within.inside, c.ends_of-top.auto.scratch)) c.ends_of-top.ensures) c.if-cur-ne0.true c.args.t.now.part refl (omega (arith, c.args.t.now.within.inside))
-
-pub each-overflow_sub-top : goal.each-overflow_sub-top
-each-overflow_sub-top t c = omega (arith, c.loop-top-test.true)
+each-returns-then-cur-ne0 t c = pop_stopped c.loop-top.invariant c.if-cur-ne0.true c.args.t.now.part refl (omega (arith, c.args.t.now.within.inside))
 
 pub each-offset_bounds-scratch-top : goal.each-offset_bounds-scratch-top
-each-offset_bounds-scratch-top t c = omega (arith, (pop_top c.args.what (loop_of c.args.lp) c.args.first c.args.default (c.loop-top.invariant c.args.t.now.part.end (omega (arith, c.requires.walk.fits, c.args.t.now.within.inside, c.ends_of-top.auto.scratch)) c.ends_of-top.ensures) c.loop-top-test.true).room, c.args.t.now.within.inside, c.args.t.now.within.known, c.args.t.now.within.sound.few)
+each-offset_bounds-scratch-top t c = omega (arith, (pop_top c.loop-top.invariant c.loop-top-test.true).room, c.args.t.now.within.inside, c.args.t.now.within.known, c.args.t.now.within.sound.few)
 
 pub each-bounds-scratch-top : goal.each-bounds-scratch-top
-each-bounds-scratch-top t c = pop_inside c.args.what (loop_of c.args.lp) c.args.first c.args.default (c.loop-top.invariant c.args.t.now.part.end (omega (arith, c.requires.walk.fits, c.args.t.now.within.inside, c.ends_of-top.auto.scratch)) c.ends_of-top.ensures) c.loop-top-test.true
+each-bounds-scratch-top t c = pop_inside c.loop-top.invariant c.loop-top-test.true
 
 pub each-overflow_sub-trees : goal.each-overflow_sub-trees
-each-overflow_sub-trees t c = let p = pop_top c.args.what (loop_of c.args.lp) c.args.first c.args.default (c.loop-top.invariant c.args.t.now.part.end (omega (arith, c.requires.walk.fits, c.args.t.now.within.inside, c.ends_of-top.auto.scratch)) c.ends_of-top.ensures) c.loop-top-test.true in omega (arith, p.up, p.idle.up, (c.loop-top.invariant c.args.t.now.part.end (omega (arith, c.requires.walk.fits, c.args.t.now.within.inside, c.ends_of-top.auto.scratch)) c.ends_of-top.ensures).low)
+each-overflow_sub-trees t c = let p = pop_top c.loop-top.invariant c.loop-top-test.true in omega (arith, p.up, p.idle.up, c.loop-top.invariant.low)
 
 pub each-offset_bounds-scratch-top-in-loop-top : goal.each-offset_bounds-scratch-top-in-loop-top
-each-offset_bounds-scratch-top-in-loop-top t c = omega (arith, (pop_top c.args.what (loop_of c.args.lp) c.args.first c.args.default (c.loop-top.invariant c.args.t.now.part.end (omega (arith, c.requires.walk.fits, c.args.t.now.within.inside, c.ends_of-top.auto.scratch)) c.ends_of-top.ensures) c.loop-top-test.true).room, c.args.t.now.within.inside, c.args.t.now.within.known, c.args.t.now.within.sound.few)
+each-offset_bounds-scratch-top-in-loop-top t c = omega (arith, (pop_top c.loop-top.invariant c.loop-top-test.true).room, c.args.t.now.within.inside, c.args.t.now.within.known, c.args.t.now.within.sound.few)
 
 pub each-slice_bounds-one-count : goal.each-slice_bounds-one-count
-each-slice_bounds-one-count t c = omega (arith, pop_inside c.args.what (loop_of c.args.lp) c.args.first c.args.default (c.loop-top.invariant c.args.t.now.part.end (omega (arith, c.requires.walk.fits, c.args.t.now.within.inside, c.ends_of-top.auto.scratch)) c.ends_of-top.ensures) c.loop-top-test.true)
+each-slice_bounds-one-count t c = omega (arith, pop_inside c.loop-top.invariant c.loop-top-test.true)
 
 pub each-slice_bounds-one-start : goal.each-slice_bounds-one-start
-each-slice_bounds-one-start t c = omega (arith, pop_inside c.args.what (loop_of c.args.lp) c.args.first c.args.default (c.loop-top.invariant c.args.t.now.part.end (omega (arith, c.requires.walk.fits, c.args.t.now.within.inside, c.ends_of-top.auto.scratch)) c.ends_of-top.ensures) c.loop-top-test.true)
+each-slice_bounds-one-start t c = omega (arith, pop_inside c.loop-top.invariant c.loop-top-test.true)
 
 pub each-invariant_of-trees : goal.each-invariant_of-trees
-each-invariant_of-trees t c = record { within = (pop_top c.args.what (loop_of c.args.lp) c.args.first c.args.default (c.loop-top.invariant c.args.t.now.part.end (omega (arith, c.requires.walk.fits, c.args.t.now.within.inside, c.ends_of-top.auto.scratch)) c.ends_of-top.ensures) c.loop-top-test.true).within }
+each-invariant_of-trees t c = record { within = (pop_top c.loop-top.invariant c.loop-top-test.true).within }
 
 pub each-one-cur-requires : goal.each-one-cur-requires
-each-one-cur-requires t c = (omega (arith, pop_below c.args.what (loop_of c.args.lp) c.args.first c.args.default (c.loop-top.invariant c.args.t.now.part.end (omega (arith, c.requires.walk.fits, c.args.t.now.within.inside, c.ends_of-top.auto.scratch)) c.ends_of-top.ensures) c.loop-top-test.true c.args.t.now.part.n (omega (arith, c.args.t.now.within.inside)), c.decreases), (record { fits = simp (length-take, length-drop) (omega (arith, pop_fits c.args.what (loop_of c.args.lp) c.args.first c.args.default (c.loop-top.invariant c.args.t.now.part.end (omega (arith, c.requires.walk.fits, c.args.t.now.within.inside, c.ends_of-top.auto.scratch)) c.ends_of-top.ensures) c.loop-top-test.true)); fine = (c.loop-top.invariant c.args.t.now.part.end (omega (arith, c.requires.walk.fits, c.args.t.now.within.inside, c.ends_of-top.auto.scratch)) c.ends_of-top.ensures).fine; named = (c.loop-top.invariant c.args.t.now.part.end (omega (arith, c.requires.walk.fits, c.args.t.now.within.inside, c.ends_of-top.auto.scratch)) c.ends_of-top.ensures).named c.requires.walk.named }, omega (arith, (pop_few c.args.what (loop_of c.args.lp) c.args.first c.args.default (c.loop-top.invariant c.args.t.now.part.end (omega (arith, c.requires.walk.fits, c.args.t.now.within.inside, c.ends_of-top.auto.scratch)) c.ends_of-top.ensures) c.loop-top-test.true c.args.t.now.part.n (omega (arith, c.args.t.now.within.inside))).0, c.requires.n_bound)))
+each-one-cur-requires t c = (omega (arith, pop_below c.loop-top.invariant c.loop-top-test.true c.args.t.now.part.n (omega (arith, c.args.t.now.within.inside)), c.decreases), (record { fits = simp (length-take, length-drop) (omega (arith, pop_fits c.loop-top.invariant c.loop-top-test.true)); fine = c.loop-top.invariant.fine; named = c.loop-top.invariant.named c.requires.walk.named }, omega (arith, (pop_few c.loop-top.invariant c.loop-top-test.true c.args.t.now.part.n (omega (arith, c.args.t.now.within.inside))).0, c.requires.n_bound)))
 
 pub each-overflow_add-seen : goal.each-overflow_add-seen
-each-overflow_add-seen t c = omega (arith, (pop_few c.args.what (loop_of c.args.lp) c.args.first c.args.default (c.loop-top.invariant c.args.t.now.part.end (omega (arith, c.requires.walk.fits, c.args.t.now.within.inside, c.ends_of-top.auto.scratch)) c.ends_of-top.ensures) c.loop-top-test.true c.args.t.now.part.n (omega (arith, c.args.t.now.within.inside))).0, c.is_labelled-seen.ensures, (element_few c.element-e.result).0, c.args.t.now.within.inside, c.args.t.now.within.known, c.args.t.now.within.sound.few)
+each-overflow_add-seen t c = omega (arith, (pop_few c.loop-top.invariant c.loop-top-test.true c.args.t.now.part.n (omega (arith, c.args.t.now.within.inside))).0, c.is_labelled-seen.ensures, (element_few c.element-e.result).0, c.args.t.now.within.inside, c.args.t.now.within.known, c.args.t.now.within.sound.few)
 
 pub each-overflow_add-cases : goal.each-overflow_add-cases
-each-overflow_add-cases t c = omega (arith, (pop_few c.args.what (loop_of c.args.lp) c.args.first c.args.default (c.loop-top.invariant c.args.t.now.part.end (omega (arith, c.requires.walk.fits, c.args.t.now.within.inside, c.ends_of-top.auto.scratch)) c.ends_of-top.ensures) c.loop-top-test.true c.args.t.now.part.n (omega (arith, c.args.t.now.within.inside))).1, c.is_case-cases.ensures, (element_few c.element-e.result).1, c.args.t.now.within.inside, c.args.t.now.within.known, c.args.t.now.within.sound.few)
-
-pub each-loop-top-smaller : goal.each-loop-top-smaller
-each-loop-top-smaller t c = omega (arith, c.loop-top-test.true)
+each-overflow_add-cases t c = omega (arith, (pop_few c.loop-top.invariant c.loop-top-test.true c.args.t.now.part.n (omega (arith, c.args.t.now.within.inside))).1, c.is_case-cases.ensures, (element_few c.element-e.result).1, c.args.t.now.within.inside, c.args.t.now.within.known, c.args.t.now.within.sound.few)
 
 pub each-loop-top-preserved : goal.each-loop-top-preserved
-each-loop-top-preserved t c = λ last r k. pop_again c.args.what (loop_of c.args.lp) c.args.first c.args.default (c.loop-top.invariant last r k) c.one-cur.new.scratch c.loop-top-test.true c.one-cur.ensures c.element-e.ensures (ap (λ (k : ℕ). c.loop-top.seen + k) c.is_labelled-seen.ensures) (ap (λ (k : ℕ). c.loop-top.cases + k) c.is_case-cases.ensures) c.one-cur.auto.list c.one-cur.auto.scratch
+each-loop-top-preserved t c = pop_again c.loop-top.invariant c.one-cur.new.scratch c.loop-top-test.true c.one-cur.ensures c.element-e.ensures (ap (λ (k : ℕ). c.loop-top.seen + k) c.is_labelled-seen.ensures) (ap (λ (k : ℕ). c.loop-top.cases + k) c.is_case-cases.ensures) c.one-cur.auto.list c.one-cur.auto.scratch
 
 pub each-shape_of-list : goal.each-shape_of-list
-each-shape_of-list t c = (c.loop-top.invariant c.args.t.now.part.end (omega (arith, c.requires.walk.fits, c.args.t.now.within.inside, c.ends_of-top.auto.scratch)) c.ends_of-top.ensures).list
+each-shape_of-list t c = c.loop-top.invariant.list
 
 pub each-shape_of-scratch : goal.each-shape_of-scratch
-each-shape_of-scratch t c = (c.loop-top.invariant c.args.t.now.part.end (omega (arith, c.requires.walk.fits, c.args.t.now.within.inside, c.ends_of-top.auto.scratch)) c.ends_of-top.ensures).scratch ∙ c.ends_of-top.auto.scratch
+each-shape_of-scratch t c = c.loop-top.invariant.scratch ∙ c.ends_of-count.auto.scratch
 
 pub each-returns : goal.each-returns
-each-returns t c = pop_done c.args.what (loop_of c.args.lp) c.args.first c.args.default (c.loop-top.invariant c.args.t.now.part.end (omega (arith, c.requires.walk.fits, c.args.t.now.within.inside, c.ends_of-top.auto.scratch)) c.ends_of-top.ensures) c.loop-top-test.false c.args.t.now.part refl (omega (arith, c.args.t.now.within.inside))
+each-returns t c = pop_done c.loop-top.invariant c.loop-top-test.false c.args.t.now.part refl (omega (arith, c.args.t.now.within.inside))
 
 pub ends-returns-then-is_empty : goal.ends-returns-then-is_empty
 ends-returns-then-is_empty t c = rw (none_at (file_of c.args.t.now) c.args.t.now.part (no_trees c.if-is_empty.ensures)) (idle c.requires.fine)
