@@ -4,8 +4,9 @@ use mathlib.Core.Path.{◌≡◌, refl, sym, ap, ◌∙◌}
 use mathlib.Core.Bool.{Bool, false}
 use mathlib.Core.List.{List}
 use native.Mathlib.Omega.{arith}
-use lib.Dec.{T}
+use lib.Dec.{T, eqb}
 use lib.ListN.{length}
+use borrow.Author.Tests.{eqb-false}
 use Rattle.hir.specs.declared.ConstantKind.{ConstantKind}
 use Rattle.hir.specs.declared.ExprKind.{ExprKind}
 use Rattle.hir.specs.declared.ExprKind.TheVariants as expr-kind
@@ -44,6 +45,9 @@ module _ {F : List ℕ} {l : Layout} {p : Part} {t : Node Part} (n : IsNode F l 
   pub expr_at : {k : ExprKind} (d : Bool) → t.root ≡ kind.Expr k → (kid_at F p 0).gen_expr d ≡ gen_expr (expr_over (string_at F (layout_of F)) k) (meanings_at F t.children) d
   unfolding resolved
   expr_at d e = expr_any d ∙ rw e
+
+pub some_left : {n : ℕ} → false ≡ eqb n 0 → n ≡ 0 → ⊥
+some_left {n} h = eqb-false n 0 (sym h)
 
 pub args_holds : (F : List ℕ) (l : Layout) (w : List ℕ) (p : Part) (b : CodeBuilder) → Within F l p → Fine b w → Args F l w p b w p b
 args_holds F l w p b i f = record { same = refl; fine = f; named = λ n. n; within = i; fewer = omega arith; list = refl }
@@ -114,19 +118,19 @@ module _ {F : List ℕ} {l : Layout} {w0 : List ℕ} {p : Part} {b0 : CodeBuilde
 
 -- a Void, of kind 48, generates nothing
 module _ (F : List ℕ) (l : Layout) (left : Part) (k : kind_at F l left ≡ 48) where
-  some_left : left.n ≡ 0 → ⊥
-  some_left z = omega (arith, kind_none F l left z)
+  a_void : left.n ≡ 0 → ⊥
+  a_void z = omega (arith, kind_none F l left z)
 
   module _ {p before : Part} (i : Unchanged F l p left) (e : before ≡ (node_of F l left).before) where
     pub void_less : before.n < left.n
-    void_less = rw e (omega (arith, some_left, (is_node F l left i.within refl).apart))
+    void_less = rw e (omega (arith, a_void, (is_node F l left i.within refl).apart))
 
     pub void_out : Unchanged F l p before
     void_out =
         let g = is_node F l left i.within refl in
         let nothing : (v : Held (Unit {0})) → after v ((kid_at F left 0).gen_expr false) ≡ v = λ v. rw (expr_at g false (void_root F l left k)) (after_done v) in
         rw e (record {
-          same = λ v. sym (rw (reversed_more F l left g (omega (arith, some_left)), after_then, nothing v) refl) ∙ i.same v;
+          same = λ v. sym (rw (reversed_more F l left g (omega (arith, a_void)), after_then, nothing v) refl) ∙ i.same v;
           within = g.rest_within;
           fewer = omega (arith, g.apart, i.fewer);
         })

@@ -31,7 +31,7 @@ use Rattle.tree.specs.Within.{Within, IsNode, record_named, kid_at, list_at}
 use Rattle.tree.proofs.Nodes.{is_node, trees_none}
 use Rattle.tree.proofs.ByKind.{either}
 use Rattle.tree.proofs.Meanings.{kid_zero, list_zero}
-use Rattle.access.proofs.Texts.{text_is}
+use Rattle.access.proofs.Texts.{text_is, no_text_lem, no_text_named}
 use Rattle.rows.proofs.Passed.{below, none_below, below_end, child_kind}
 
 -- a record's name
@@ -46,6 +46,19 @@ key_name F i {s = s} e h t = (rw e (text_is F s h), rw e at t)
 pub parameter_name : (F : List ℕ) (i : ℕ) {root : Record} {s n : ℕ} → root ≡ kind.Parameter s n → length F ≤ 1048576 → T (record_named F i root) → Names F root s
 unfolding resolved
 parameter_name F i {s = s} e h t = (rw e (text_is F s h), rw e at t)
+
+pub other_name : (root : Record) → ((s : ℕ) → root ≡ kind.ObjectField s → ⊥) → ((s n : ℕ) → root ≡ kind.Parameter s n → ⊥) →
+    (F : List ℕ) (i : ℕ) → length F ≤ 1048576 → T (record_named F i root) → Names F root 0xffff_ffff
+unfolding resolved
+other_name (kind.ObjectField s) h g F i = absurd (h s refl)
+other_name (kind.Parameter s n) h g F i = absurd (g s n refl)
+other_name (kind.Statement k) h g F i = λ _ _. (no_text_lem F, no_text_named F)
+other_name (kind.Expr k) h g F i = λ _ _. (no_text_lem F, no_text_named F)
+other_name kind.Absent h g F i = λ _ _. (no_text_lem F, no_text_named F)
+other_name (kind.List n) h g F i = λ _ _. (no_text_lem F, no_text_named F)
+other_name kind.Case h g F i = λ _ _. (no_text_lem F, no_text_named F)
+other_name kind.Default h g F i = λ _ _. (no_text_lem F, no_text_named F)
+other_name kind.Other h g F i = λ _ _. (no_text_lem F, no_text_named F)
 
 -- a hoisted function
 
