@@ -82,15 +82,14 @@ fn each(
         return b;
     }
     let start = t.part.end - t.part.n;
-    let mut top = ends_of(t.script.bytes, t.script.layout, t.part, scratch, what, lp);
+    let count = ends_of(t.script.bytes, t.script.layout, t.part, scratch, what, lp);
     let mut cur = b;
     let mut seen: u32 = 0;
     let mut cases: u32 = 0;
-    while top != 0 {
+    for top in (0..count).rev() {
         if cur.refused != 0 {
             return cur;
         }
-        top -= 1;
         let end = scratch[top];
         let trees = Trees {
             script: t.script,
@@ -112,8 +111,8 @@ fn each(
             cases,
         );
         let e = trees.element();
-        seen = seen + is_labelled(e);
-        cases = cases + is_case(e);
+        seen += is_labelled(e);
+        cases += is_case(e);
     }
     cur
 }
@@ -169,8 +168,7 @@ fn one(
                     let b3 = action(list, b2, Op::StrictEquals);
                     branch(list, b3, Label(first + seen))
                 }
-                Element::Default => b,
-                Element::Statement => b,
+                Element::Default | Element::Statement => b,
             }
         }
         Each::Element => {
@@ -242,14 +240,7 @@ fn gen_statement(
             StatementKind::Continue => jump_to(list, b, continue_to),
             StatementKind::Switch => gen_switch(&kids, b, list, scratch, lp),
         },
-        Record::Expr(kind) => b,
-        Record::Absent => b,
-        Record::List(n) => b,
-        Record::ObjectField(key) => b,
-        Record::Parameter { name, register } => b,
-        Record::Case => b,
-        Record::Default => b,
-        Record::Other => b,
+        _ => b,
     }
 }
 
@@ -549,14 +540,8 @@ fn gen_expr(
                 action(list, b3, Op::SetProperty)
             }
         },
-        Record::Case => gen_expr(&kids, b, list, scratch, discard),
-        Record::ObjectField(key) => gen_expr(&kids, b, list, scratch, discard),
-        Record::Statement(kind) => b,
-        Record::Absent => b,
-        Record::List(n) => b,
-        Record::Parameter { name, register } => b,
-        Record::Default => b,
-        Record::Other => b,
+        Record::Case | Record::ObjectField(_) => gen_expr(&kids, b, list, scratch, discard),
+        _ => b,
     }
 }
 

@@ -9,7 +9,7 @@ use Rattle.pcode.specs.declared.Op.TheVariants.{GetMember}
 use Rattle.script_records.specs.declared.part.Part.{Part}
 use Rattle.script_records.specs.Layout.{layout_of, string_at}
 use Rattle.decode.specs.Numbers.{unsigned}
-use Rattle.script.specs.Resolve.{resolved, target_over}
+use Rattle.script.specs.Resolve.{target_over}
 use Rattle.lowering.specs.Meaning.{present}
 use Rattle.list_slice.specs.File.{text_in}
 use Rattle.codegen_state.proofs.Steps.{idle, stays}
@@ -22,7 +22,7 @@ use Rattle.builder.proofs.Body.{begun_fine, begun_named, ready, function_done}
 use Rattle.access.proofs.Texts.{text_is}
 use Rattle.rows.specs.Rows.{loop_of}
 use Rattle.leaves.proofs.Args.{some_left, expr_at, args_again, args_less, args_stopped, args_done}
-use Rattle.statement.proofs.Laws.{rec_is, element_at, case_at, field_at, no_expr, statement_at, no_statement, access_at, literal_of, none_at, labels_counted, labels_less, default_less, switching, no_labels, some_labels, function_at, function_size, literal_named, field_live, number_less, rank_least, rank_most, rank_kept}
+use Rattle.statement.proofs.Laws.{rec_is, element_at, value_at, value_live, no_expr, statement_at, no_statement, untested, access_at, literal_of, none_at, labels_counted, labels_less, default_less, switching, no_labels, some_labels, function_at, function_size, literal_named, field_live, number_less, rank_least, rank_most, rank_kept}
 use Rattle.statement.proofs.Lists.{pop_holds, pop_top, pop_inside, pop_fits, pop_below, pop_few, pop_again, pop_stopped, pop_done, element_few}
 use mir.ValLaws.{to_z-of_z}
 use mir.Syntax.{w32}
@@ -164,71 +164,65 @@ each-returns-then-b-ne0 t c = stays c.if-b-ne0.true c.requires.walk.fine
 pub each-overflow_sub-start : goal.each-overflow_sub-start
 each-overflow_sub-start t c = omega (arith, c.args.t.now.within.inside)
 
-pub each-ends_of-top-requires : goal.each-ends_of-top-requires
-each-ends_of-top-requires t c = record {
+pub each-ends_of-count-requires : goal.each-ends_of-count-requires
+each-ends_of-count-requires t c = record {
   within = c.args.t.now.within;
   n_in_bounds = c.requires.walk.fits;
 }
 
 pub each-loop-top-init : goal.each-loop-top-init
-each-loop-top-init t c = λ last r k. pop_holds c.args.what (loop_of c.args.lp) c.args.first c.args.default _ last _ _ _ _ c.requires.walk.fine r k
+each-loop-top-init t c = pop_holds c.requires.walk.fine (omega (arith, c.requires.walk.fits, c.args.t.now.within.inside, c.ends_of-count.auto.scratch)) c.ends_of-count.ensures
 
 pub each-shape_of-list-then-cur-ne0 : goal.each-shape_of-list-then-cur-ne0
-each-shape_of-list-then-cur-ne0 t c = (c.loop-top.invariant c.args.t.now.part.end (omega (arith, c.requires.walk.fits, c.args.t.now.within.inside, c.ends_of-top.auto.scratch)) c.ends_of-top.ensures).list
+each-shape_of-list-then-cur-ne0 t c = c.loop-top.invariant.list
 
 pub each-shape_of-scratch-then-cur-ne0 : goal.each-shape_of-scratch-then-cur-ne0
-each-shape_of-scratch-then-cur-ne0 t c = (c.loop-top.invariant c.args.t.now.part.end (omega (arith, c.requires.walk.fits, c.args.t.now.within.inside, c.ends_of-top.auto.scratch)) c.ends_of-top.ensures).scratch ∙ c.ends_of-top.auto.scratch
+each-shape_of-scratch-then-cur-ne0 t c = c.loop-top.invariant.scratch ∙ c.ends_of-count.auto.scratch
 
 pub each-returns-then-cur-ne0 : goal.each-returns-then-cur-ne0
-each-returns-then-cur-ne0 t c = pop_stopped c.args.what (loop_of c.args.lp) c.args.first c.args.default (c.loop-top.invariant c.args.t.now.part.end (omega (arith, c.requires.walk.fits, c.args.t.now.within.inside, c.ends_of-top.auto.scratch)) c.ends_of-top.ensures) c.if-cur-ne0.true c.args.t.now.part refl (omega (arith, c.args.t.now.within.inside))
-
-pub each-overflow_sub-top : goal.each-overflow_sub-top
-each-overflow_sub-top t c = omega (arith, c.loop-top-test.true)
+each-returns-then-cur-ne0 t c = pop_stopped c.loop-top.invariant c.if-cur-ne0.true c.args.t.now.part refl (omega (arith, c.args.t.now.within.inside))
 
 pub each-offset_bounds-scratch-top : goal.each-offset_bounds-scratch-top
-each-offset_bounds-scratch-top t c = omega (arith, (pop_top c.args.what (loop_of c.args.lp) c.args.first c.args.default (c.loop-top.invariant c.args.t.now.part.end (omega (arith, c.requires.walk.fits, c.args.t.now.within.inside, c.ends_of-top.auto.scratch)) c.ends_of-top.ensures) c.loop-top-test.true).room, c.args.t.now.within.inside, c.args.t.now.within.known, c.args.t.now.within.sound.few)
+each-offset_bounds-scratch-top t c = omega (arith, (pop_top c.loop-top.invariant c.loop-top-test.true).room, c.args.t.now.within.inside, c.args.t.now.within.known, c.args.t.now.within.sound.few)
 
 pub each-bounds-scratch-top : goal.each-bounds-scratch-top
-each-bounds-scratch-top t c = pop_inside c.args.what (loop_of c.args.lp) c.args.first c.args.default (c.loop-top.invariant c.args.t.now.part.end (omega (arith, c.requires.walk.fits, c.args.t.now.within.inside, c.ends_of-top.auto.scratch)) c.ends_of-top.ensures) c.loop-top-test.true
+each-bounds-scratch-top t c = pop_inside c.loop-top.invariant c.loop-top-test.true
 
 pub each-overflow_sub-trees : goal.each-overflow_sub-trees
-each-overflow_sub-trees t c = let p = pop_top c.args.what (loop_of c.args.lp) c.args.first c.args.default (c.loop-top.invariant c.args.t.now.part.end (omega (arith, c.requires.walk.fits, c.args.t.now.within.inside, c.ends_of-top.auto.scratch)) c.ends_of-top.ensures) c.loop-top-test.true in omega (arith, p.up, p.idle.up, (c.loop-top.invariant c.args.t.now.part.end (omega (arith, c.requires.walk.fits, c.args.t.now.within.inside, c.ends_of-top.auto.scratch)) c.ends_of-top.ensures).low)
+each-overflow_sub-trees t c = let p = pop_top c.loop-top.invariant c.loop-top-test.true in omega (arith, p.up, p.idle.up, c.loop-top.invariant.low)
 
 pub each-offset_bounds-scratch-top-in-loop-top : goal.each-offset_bounds-scratch-top-in-loop-top
-each-offset_bounds-scratch-top-in-loop-top t c = omega (arith, (pop_top c.args.what (loop_of c.args.lp) c.args.first c.args.default (c.loop-top.invariant c.args.t.now.part.end (omega (arith, c.requires.walk.fits, c.args.t.now.within.inside, c.ends_of-top.auto.scratch)) c.ends_of-top.ensures) c.loop-top-test.true).room, c.args.t.now.within.inside, c.args.t.now.within.known, c.args.t.now.within.sound.few)
+each-offset_bounds-scratch-top-in-loop-top t c = omega (arith, (pop_top c.loop-top.invariant c.loop-top-test.true).room, c.args.t.now.within.inside, c.args.t.now.within.known, c.args.t.now.within.sound.few)
 
 pub each-slice_bounds-one-count : goal.each-slice_bounds-one-count
-each-slice_bounds-one-count t c = omega (arith, pop_inside c.args.what (loop_of c.args.lp) c.args.first c.args.default (c.loop-top.invariant c.args.t.now.part.end (omega (arith, c.requires.walk.fits, c.args.t.now.within.inside, c.ends_of-top.auto.scratch)) c.ends_of-top.ensures) c.loop-top-test.true)
+each-slice_bounds-one-count t c = omega (arith, pop_inside c.loop-top.invariant c.loop-top-test.true)
 
 pub each-slice_bounds-one-start : goal.each-slice_bounds-one-start
-each-slice_bounds-one-start t c = omega (arith, pop_inside c.args.what (loop_of c.args.lp) c.args.first c.args.default (c.loop-top.invariant c.args.t.now.part.end (omega (arith, c.requires.walk.fits, c.args.t.now.within.inside, c.ends_of-top.auto.scratch)) c.ends_of-top.ensures) c.loop-top-test.true)
+each-slice_bounds-one-start t c = omega (arith, pop_inside c.loop-top.invariant c.loop-top-test.true)
 
 pub each-invariant_of-trees : goal.each-invariant_of-trees
-each-invariant_of-trees t c = record { within = (pop_top c.args.what (loop_of c.args.lp) c.args.first c.args.default (c.loop-top.invariant c.args.t.now.part.end (omega (arith, c.requires.walk.fits, c.args.t.now.within.inside, c.ends_of-top.auto.scratch)) c.ends_of-top.ensures) c.loop-top-test.true).within }
+each-invariant_of-trees t c = record { within = (pop_top c.loop-top.invariant c.loop-top-test.true).within }
 
 pub each-one-cur-requires : goal.each-one-cur-requires
-each-one-cur-requires t c = (omega (arith, pop_below c.args.what (loop_of c.args.lp) c.args.first c.args.default (c.loop-top.invariant c.args.t.now.part.end (omega (arith, c.requires.walk.fits, c.args.t.now.within.inside, c.ends_of-top.auto.scratch)) c.ends_of-top.ensures) c.loop-top-test.true c.args.t.now.part.n (omega (arith, c.args.t.now.within.inside)), c.decreases), (record { fits = simp (length-take, length-drop) (omega (arith, pop_fits c.args.what (loop_of c.args.lp) c.args.first c.args.default (c.loop-top.invariant c.args.t.now.part.end (omega (arith, c.requires.walk.fits, c.args.t.now.within.inside, c.ends_of-top.auto.scratch)) c.ends_of-top.ensures) c.loop-top-test.true)); fine = (c.loop-top.invariant c.args.t.now.part.end (omega (arith, c.requires.walk.fits, c.args.t.now.within.inside, c.ends_of-top.auto.scratch)) c.ends_of-top.ensures).fine; named = (c.loop-top.invariant c.args.t.now.part.end (omega (arith, c.requires.walk.fits, c.args.t.now.within.inside, c.ends_of-top.auto.scratch)) c.ends_of-top.ensures).named c.requires.walk.named }, omega (arith, (pop_few c.args.what (loop_of c.args.lp) c.args.first c.args.default (c.loop-top.invariant c.args.t.now.part.end (omega (arith, c.requires.walk.fits, c.args.t.now.within.inside, c.ends_of-top.auto.scratch)) c.ends_of-top.ensures) c.loop-top-test.true c.args.t.now.part.n (omega (arith, c.args.t.now.within.inside))).0, c.requires.n_bound)))
+each-one-cur-requires t c = (omega (arith, pop_below c.loop-top.invariant c.loop-top-test.true c.args.t.now.part.n (omega (arith, c.args.t.now.within.inside)), c.decreases), (record { fits = simp (length-take, length-drop) (omega (arith, pop_fits c.loop-top.invariant c.loop-top-test.true)); fine = c.loop-top.invariant.fine; named = c.loop-top.invariant.named c.requires.walk.named }, omega (arith, (pop_few c.loop-top.invariant c.loop-top-test.true c.args.t.now.part.n (omega (arith, c.args.t.now.within.inside))).0, c.requires.n_bound)))
 
 pub each-overflow_add-seen : goal.each-overflow_add-seen
-each-overflow_add-seen t c = omega (arith, (pop_few c.args.what (loop_of c.args.lp) c.args.first c.args.default (c.loop-top.invariant c.args.t.now.part.end (omega (arith, c.requires.walk.fits, c.args.t.now.within.inside, c.ends_of-top.auto.scratch)) c.ends_of-top.ensures) c.loop-top-test.true c.args.t.now.part.n (omega (arith, c.args.t.now.within.inside))).0, c.is_labelled-seen.ensures, (element_few c.element-e.result).0, c.args.t.now.within.inside, c.args.t.now.within.known, c.args.t.now.within.sound.few)
+each-overflow_add-seen t c = omega (arith, (pop_few c.loop-top.invariant c.loop-top-test.true c.args.t.now.part.n (omega (arith, c.args.t.now.within.inside))).0, c.is_labelled-seen.ensures, (element_few c.element-e.result).0, c.args.t.now.within.inside, c.args.t.now.within.known, c.args.t.now.within.sound.few)
 
 pub each-overflow_add-cases : goal.each-overflow_add-cases
-each-overflow_add-cases t c = omega (arith, (pop_few c.args.what (loop_of c.args.lp) c.args.first c.args.default (c.loop-top.invariant c.args.t.now.part.end (omega (arith, c.requires.walk.fits, c.args.t.now.within.inside, c.ends_of-top.auto.scratch)) c.ends_of-top.ensures) c.loop-top-test.true c.args.t.now.part.n (omega (arith, c.args.t.now.within.inside))).1, c.is_case-cases.ensures, (element_few c.element-e.result).1, c.args.t.now.within.inside, c.args.t.now.within.known, c.args.t.now.within.sound.few)
-
-pub each-loop-top-smaller : goal.each-loop-top-smaller
-each-loop-top-smaller t c = omega (arith, c.loop-top-test.true)
+each-overflow_add-cases t c = omega (arith, (pop_few c.loop-top.invariant c.loop-top-test.true c.args.t.now.part.n (omega (arith, c.args.t.now.within.inside))).1, c.is_case-cases.ensures, (element_few c.element-e.result).1, c.args.t.now.within.inside, c.args.t.now.within.known, c.args.t.now.within.sound.few)
 
 pub each-loop-top-preserved : goal.each-loop-top-preserved
-each-loop-top-preserved t c = λ last r k. pop_again c.args.what (loop_of c.args.lp) c.args.first c.args.default (c.loop-top.invariant last r k) c.one-cur.new.scratch c.loop-top-test.true c.one-cur.ensures c.element-e.ensures (ap (λ (k : ℕ). c.loop-top.seen + k) c.is_labelled-seen.ensures) (ap (λ (k : ℕ). c.loop-top.cases + k) c.is_case-cases.ensures) c.one-cur.auto.list c.one-cur.auto.scratch
+each-loop-top-preserved t c = pop_again c.loop-top.invariant c.one-cur.new.scratch c.loop-top-test.true c.one-cur.ensures c.element-e.ensures (ap (λ (k : ℕ). c.loop-top.seen + k) c.is_labelled-seen.ensures) (ap (λ (k : ℕ). c.loop-top.cases + k) c.is_case-cases.ensures) c.one-cur.auto.list c.one-cur.auto.scratch
 
 pub each-shape_of-list : goal.each-shape_of-list
-each-shape_of-list t c = (c.loop-top.invariant c.args.t.now.part.end (omega (arith, c.requires.walk.fits, c.args.t.now.within.inside, c.ends_of-top.auto.scratch)) c.ends_of-top.ensures).list
+each-shape_of-list t c = c.loop-top.invariant.list
 
 pub each-shape_of-scratch : goal.each-shape_of-scratch
-each-shape_of-scratch t c = (c.loop-top.invariant c.args.t.now.part.end (omega (arith, c.requires.walk.fits, c.args.t.now.within.inside, c.ends_of-top.auto.scratch)) c.ends_of-top.ensures).scratch ∙ c.ends_of-top.auto.scratch
+each-shape_of-scratch t c = c.loop-top.invariant.scratch ∙ c.ends_of-count.auto.scratch
 
 pub each-returns : goal.each-returns
-each-returns t c = pop_done c.args.what (loop_of c.args.lp) c.args.first c.args.default (c.loop-top.invariant c.args.t.now.part.end (omega (arith, c.requires.walk.fits, c.args.t.now.within.inside, c.ends_of-top.auto.scratch)) c.ends_of-top.ensures) c.loop-top-test.false c.args.t.now.part refl (omega (arith, c.args.t.now.within.inside))
+each-returns t c = pop_done c.loop-top.invariant c.loop-top-test.false c.args.t.now.part refl (omega (arith, c.args.t.now.within.inside))
 
 pub ends-returns-then-is_empty : goal.ends-returns-then-is_empty
 ends-returns-then-is_empty t c = rw (none_at (file_of c.args.t.now) c.args.t.now.part (no_trees c.if-is_empty.ensures)) (idle c.requires.fine)
@@ -616,10 +610,7 @@ pub gen_expr-action-requires-in-SetProperty : goal.gen_expr-action-requires-in-S
 gen_expr-action-requires-in-SetProperty t c = c.gen_expr-b3.ensures.fine
 
 pub gen_expr-gen_expr-requires : goal.gen_expr-gen_expr-requires
-gen_expr-gen_expr-requires t c = (omega (arith, c.decreases, c.requires.fits, (is_node _ _ _ c.args.t.now.within c.node-node.ensures.node).apart, (is_node _ _ _ c.args.t.now.within c.node-node.ensures.node).real, ap live c.in-Case.is), record { fits = omega (arith, c.decreases, c.requires.fits, (is_node _ _ _ c.args.t.now.within c.node-node.ensures.node).apart, (is_node _ _ _ c.args.t.now.within c.node-node.ensures.node).real, ap live c.in-Case.is); fine = c.requires.fine; named = rw c.node-node.ensures.children c.requires.named })
-
-pub gen_expr-gen_expr-requires-in-ObjectField : goal.gen_expr-gen_expr-requires-in-ObjectField
-gen_expr-gen_expr-requires-in-ObjectField t c = (omega (arith, c.decreases, c.requires.fits, (is_node _ _ _ c.args.t.now.within c.node-node.ensures.node).apart, (is_node _ _ _ c.args.t.now.within c.node-node.ensures.node).real, ap live c.in-ObjectField.is), record { fits = omega (arith, c.decreases, c.requires.fits, (is_node _ _ _ c.args.t.now.within c.node-node.ensures.node).apart, (is_node _ _ _ c.args.t.now.within c.node-node.ensures.node).real, ap live c.in-ObjectField.is); fine = c.requires.fine; named = rw c.node-node.ensures.children c.requires.named })
+gen_expr-gen_expr-requires t c = (omega (arith, c.decreases, c.requires.fits, (is_node _ _ _ c.args.t.now.within c.node-node.ensures.node).apart, (is_node _ _ _ c.args.t.now.within c.node-node.ensures.node).real, value_live c.in-Case.is), record { fits = omega (arith, c.decreases, c.requires.fits, (is_node _ _ _ c.args.t.now.within c.node-node.ensures.node).apart, (is_node _ _ _ c.args.t.now.within c.node-node.ensures.node).real, value_live c.in-Case.is); fine = c.requires.fine; named = rw c.node-node.ensures.children c.requires.named })
 
 pub gen_expr-shape_of-list-in-Constant : goal.gen_expr-shape_of-list-in-Constant
 gen_expr-shape_of-list-in-Constant t c = c.read_constant.auto.list
@@ -781,40 +772,7 @@ pub gen_expr-shape_of-scratch-in-Case : goal.gen_expr-shape_of-scratch-in-Case
 gen_expr-shape_of-scratch-in-Case t c = c.gen_expr.auto.scratch
 
 pub gen_expr-returns-in-Case : goal.gen_expr-returns-in-Case
-gen_expr-returns-in-Case t c = rw (case_at (is_node _ _ _ c.args.t.now.within c.node-node.ensures.node) c.args.discard c.in-Case.is) (rw c.node-node.ensures.children at c.gen_expr.ensures)
-
-pub gen_expr-shape_of-list-in-ObjectField : goal.gen_expr-shape_of-list-in-ObjectField
-gen_expr-shape_of-list-in-ObjectField t c = c.gen_expr-in-ObjectField.auto.list
-
-pub gen_expr-shape_of-scratch-in-ObjectField : goal.gen_expr-shape_of-scratch-in-ObjectField
-gen_expr-shape_of-scratch-in-ObjectField t c = c.gen_expr-in-ObjectField.auto.scratch
-
-pub gen_expr-returns-in-ObjectField : goal.gen_expr-returns-in-ObjectField
-gen_expr-returns-in-ObjectField t c = rw (field_at (is_node _ _ _ c.args.t.now.within c.node-node.ensures.node) c.args.discard c.in-ObjectField.is) (rw c.node-node.ensures.children at c.gen_expr-in-ObjectField.ensures)
-
-pub gen_expr-returns-in-Statement : goal.gen_expr-returns-in-Statement
-unfolding resolved
-gen_expr-returns-in-Statement t c = rw (no_expr (is_node _ _ _ c.args.t.now.within c.node-node.ensures.node) c.args.discard c.in-Statement.is refl) (idle c.requires.fine)
-
-pub gen_expr-returns-in-Absent : goal.gen_expr-returns-in-Absent
-unfolding resolved
-gen_expr-returns-in-Absent t c = rw (no_expr (is_node _ _ _ c.args.t.now.within c.node-node.ensures.node) c.args.discard c.in-Absent.is refl) (idle c.requires.fine)
-
-pub gen_expr-returns-in-List : goal.gen_expr-returns-in-List
-unfolding resolved
-gen_expr-returns-in-List t c = rw (no_expr (is_node _ _ _ c.args.t.now.within c.node-node.ensures.node) c.args.discard c.in-List.is refl) (idle c.requires.fine)
-
-pub gen_expr-returns-in-Parameter : goal.gen_expr-returns-in-Parameter
-unfolding resolved
-gen_expr-returns-in-Parameter t c = rw (no_expr (is_node _ _ _ c.args.t.now.within c.node-node.ensures.node) c.args.discard c.in-Parameter.is refl) (idle c.requires.fine)
-
-pub gen_expr-returns-in-Default : goal.gen_expr-returns-in-Default
-unfolding resolved
-gen_expr-returns-in-Default t c = rw (no_expr (is_node _ _ _ c.args.t.now.within c.node-node.ensures.node) c.args.discard c.in-Default.is refl) (idle c.requires.fine)
-
-pub gen_expr-returns-in-Other : goal.gen_expr-returns-in-Other
-unfolding resolved
-gen_expr-returns-in-Other t c = rw (no_expr (is_node _ _ _ c.args.t.now.within c.node-node.ensures.node) c.args.discard c.in-Other.is refl) (idle c.requires.fine)
+gen_expr-returns-in-Case t c = rw (value_at (is_node _ _ _ c.args.t.now.within c.node-node.ensures.node) c.args.discard c.in-Case.is) (rw c.node-node.ensures.children at c.gen_expr.ensures)
 
 pub gen_for_loop-gen_expr-cur-requires : goal.gen_for_loop-gen_expr-cur-requires
 gen_for_loop-gen_expr-cur-requires t c = (omega (arith, c.decreases, c.requires.walk.fits, c.kid-object.ensures.kid.fewer), record { fits = omega (arith, c.decreases, c.requires.walk.fits, c.kid-object.ensures.kid.fewer); fine = (c.create_label-b2.ensures (file_of c.args.t.now) _ (c.create_label-b1.ensures (file_of c.args.t.now) _ c.requires.walk.fine).fine).fine; named = rw c.kid-object.ensures.script ((c.create_label-b2.ensures (file_of c.args.t.now) _ (c.create_label-b1.ensures (file_of c.args.t.now) _ c.requires.walk.fine).fine).named ((c.create_label-b1.ensures (file_of c.args.t.now) _ c.requires.walk.fine).named c.requires.walk.named)) })
@@ -1073,14 +1031,14 @@ gen_statement-shape_of-scratch-in-Throw t c = c.exit-in-Throw.auto.scratch
 pub gen_statement-returns-in-Throw : goal.gen_statement-returns-in-Throw
 gen_statement-returns-in-Throw t c = rw (statement_at (is_node _ _ _ c.args.t.now.within c.node-node.ensures.node) (loop_of c.args.lp) c.in-Statement.is, c.in-Throw.is) (rw c.node-node.ensures.children at c.exit-in-Throw.ensures)
 
-pub gen_statement-shape_of-list-in-Expr-kind : goal.gen_statement-shape_of-list-in-Expr-kind
-gen_statement-shape_of-list-in-Expr-kind t c = c.truncate_stack.auto.list ∙ c.gen_expr-b1.auto.list
+pub gen_statement-shape_of-list-in-Expr : goal.gen_statement-shape_of-list-in-Expr
+gen_statement-shape_of-list-in-Expr t c = c.truncate_stack.auto.list ∙ c.gen_expr-b1.auto.list
 
-pub gen_statement-shape_of-scratch-in-Expr-kind : goal.gen_statement-shape_of-scratch-in-Expr-kind
-gen_statement-shape_of-scratch-in-Expr-kind t c = c.gen_expr-b1.auto.scratch
+pub gen_statement-shape_of-scratch-in-Expr : goal.gen_statement-shape_of-scratch-in-Expr
+gen_statement-shape_of-scratch-in-Expr t c = c.gen_expr-b1.auto.scratch
 
-pub gen_statement-returns-in-Expr-kind : goal.gen_statement-returns-in-Expr-kind
-gen_statement-returns-in-Expr-kind t c = rw (statement_at (is_node _ _ _ c.args.t.now.within c.node-node.ensures.node) (loop_of c.args.lp) c.in-Statement.is, c.in-Expr-kind.is) (void_arm c.args.t.now.script.layout c.node-node.result.children.part (rw c.node-node.ensures.children at c.gen_expr-b1.ensures) (c.truncate_stack.ensures (file_of c.args.t.now)))
+pub gen_statement-returns-in-Expr : goal.gen_statement-returns-in-Expr
+gen_statement-returns-in-Expr t c = rw (statement_at (is_node _ _ _ c.args.t.now.within c.node-node.ensures.node) (loop_of c.args.lp) c.in-Statement.is, c.in-Expr.is) (void_arm c.args.t.now.script.layout c.node-node.result.children.part (rw c.node-node.ensures.children at c.gen_expr-b1.ensures) (c.truncate_stack.ensures (file_of c.args.t.now)))
 
 pub gen_statement-shape_of-list-in-Block : goal.gen_statement-shape_of-list-in-Block
 gen_statement-shape_of-list-in-Block t c = c.truncate_stack-in-Block.auto.list ∙ c.gen_statements-b1.auto.list
@@ -1138,38 +1096,6 @@ gen_statement-shape_of-scratch-in-Switch t c = c.gen_switch.auto.scratch
 
 pub gen_statement-returns-in-Switch : goal.gen_statement-returns-in-Switch
 gen_statement-returns-in-Switch t c = rw (statement_at (is_node _ _ _ c.args.t.now.within c.node-node.ensures.node) (loop_of c.args.lp) c.in-Statement.is, c.in-Switch.is) (rw c.node-node.ensures.children at c.gen_switch.ensures)
-
-pub gen_statement-returns-in-Expr : goal.gen_statement-returns-in-Expr
-unfolding resolved
-gen_statement-returns-in-Expr t c = rw (no_statement (is_node _ _ _ c.args.t.now.within c.node-node.ensures.node) (loop_of c.args.lp) c.in-Expr.is refl) (idle c.requires.fine)
-
-pub gen_statement-returns-in-Absent : goal.gen_statement-returns-in-Absent
-unfolding resolved
-gen_statement-returns-in-Absent t c = rw (no_statement (is_node _ _ _ c.args.t.now.within c.node-node.ensures.node) (loop_of c.args.lp) c.in-Absent.is refl) (idle c.requires.fine)
-
-pub gen_statement-returns-in-List : goal.gen_statement-returns-in-List
-unfolding resolved
-gen_statement-returns-in-List t c = rw (no_statement (is_node _ _ _ c.args.t.now.within c.node-node.ensures.node) (loop_of c.args.lp) c.in-List.is refl) (idle c.requires.fine)
-
-pub gen_statement-returns-in-ObjectField : goal.gen_statement-returns-in-ObjectField
-unfolding resolved
-gen_statement-returns-in-ObjectField t c = rw (no_statement (is_node _ _ _ c.args.t.now.within c.node-node.ensures.node) (loop_of c.args.lp) c.in-ObjectField.is refl) (idle c.requires.fine)
-
-pub gen_statement-returns-in-Parameter : goal.gen_statement-returns-in-Parameter
-unfolding resolved
-gen_statement-returns-in-Parameter t c = rw (no_statement (is_node _ _ _ c.args.t.now.within c.node-node.ensures.node) (loop_of c.args.lp) c.in-Parameter.is refl) (idle c.requires.fine)
-
-pub gen_statement-returns-in-Case : goal.gen_statement-returns-in-Case
-unfolding resolved
-gen_statement-returns-in-Case t c = rw (no_statement (is_node _ _ _ c.args.t.now.within c.node-node.ensures.node) (loop_of c.args.lp) c.in-Case.is refl) (idle c.requires.fine)
-
-pub gen_statement-returns-in-Default : goal.gen_statement-returns-in-Default
-unfolding resolved
-gen_statement-returns-in-Default t c = rw (no_statement (is_node _ _ _ c.args.t.now.within c.node-node.ensures.node) (loop_of c.args.lp) c.in-Default.is refl) (idle c.requires.fine)
-
-pub gen_statement-returns-in-Other : goal.gen_statement-returns-in-Other
-unfolding resolved
-gen_statement-returns-in-Other t c = rw (no_statement (is_node _ _ _ c.args.t.now.within c.node-node.ensures.node) (loop_of c.args.lp) c.in-Other.is refl) (idle c.requires.fine)
 
 pub gen_statements-has_hoisted-requires : goal.gen_statements-has_hoisted-requires
 gen_statements-has_hoisted-requires t c = c.args.t.now.within
@@ -1566,10 +1492,10 @@ pub one-mark_default-requires : goal.one-mark_default-requires
 one-mark_default-requires t c = c.requires.walk.fine
 
 pub one-returns-then-seen-eq0 : goal.one-returns-then-seen-eq0
-one-returns-then-seen-eq0 t c = rw (c.in-Element.is, element_at (is_node _ _ _ c.args.t.now.within refl) c.element-e-in-Element.ensures, c.in-Statement-e-2.is, c.if-seen-eq0.true) (idle c.requires.walk.fine)
+one-returns-then-seen-eq0 t c = rw (c.in-Element.is, element_at (is_node _ _ _ c.args.t.now.within refl) c.element-e-in-Element.ensures, c.in-Statement-e.is, c.if-seen-eq0.true) (idle c.requires.walk.fine)
 
-pub one-gen_statement-requires-in-Statement-e-2 : goal.one-gen_statement-requires-in-Statement-e-2
-one-gen_statement-requires-in-Statement-e-2 t c = (omega (arith, c.decreases, c.requires.walk.fits), record { fits = omega (arith, c.decreases, c.requires.walk.fits); fine = c.requires.walk.fine; named = c.requires.walk.named })
+pub one-gen_statement-requires-in-Statement-e : goal.one-gen_statement-requires-in-Statement-e
+one-gen_statement-requires-in-Statement-e t c = (omega (arith, c.decreases, c.requires.walk.fits), record { fits = omega (arith, c.decreases, c.requires.walk.fits); fine = c.requires.walk.fine; named = c.requires.walk.named })
 
 pub one-shape_of-list-in-Expr : goal.one-shape_of-list-in-Expr
 one-shape_of-list-in-Expr t c = c.gen_expr.auto.list
@@ -1629,10 +1555,7 @@ pub one-returns-in-Case : goal.one-returns-in-Case
 one-returns-in-Case t c = rw (c.in-Conditional.is, element_at (is_node _ _ _ c.args.t.now.within refl) c.element-e.ensures, c.in-Case.is) (test_arm c.args.t.now.script.layout c.args.t.now.part c.args.first c.args.seen c.args.cases (c.push_if-b1.ensures (file_of c.args.t.now)) c.gen_expr-b2.ensures (c.action-b3.ensures (file_of c.args.t.now)) (c.branch-list.ensures (file_of c.args.t.now)))
 
 pub one-returns-in-Default : goal.one-returns-in-Default
-one-returns-in-Default t c = rw (c.in-Conditional.is, element_at (is_node _ _ _ c.args.t.now.within refl) c.element-e.ensures, c.in-Default.is) (idle c.requires.walk.fine)
-
-pub one-returns-in-Statement-e : goal.one-returns-in-Statement-e
-one-returns-in-Statement-e t c = rw (c.in-Conditional.is, element_at (is_node _ _ _ c.args.t.now.within refl) c.element-e.ensures, c.in-Statement-e.is) (idle c.requires.walk.fine)
+one-returns-in-Default t c = rw (c.in-Conditional.is, untested _ _ _ _ (element_at (is_node _ _ _ c.args.t.now.within refl) c.element-e.ensures) c.in-Default.is) (idle c.requires.walk.fine)
 
 pub one-shape_of-list-in-Case-e : goal.one-shape_of-list-in-Case-e
 one-shape_of-list-in-Case-e t c = c.mark_label.auto.list
@@ -1647,10 +1570,16 @@ pub one-returns-in-Default-e : goal.one-returns-in-Default-e
 one-returns-in-Default-e t c = rw (c.in-Element.is, element_at (is_node _ _ _ c.args.t.now.within refl) c.element-e-in-Element.ensures, c.in-Default-e.is) (c.mark_default.ensures (file_of c.args.t.now))
 
 pub one-shape_of-list-else-seen-eq0 : goal.one-shape_of-list-else-seen-eq0
-one-shape_of-list-else-seen-eq0 t c = c.gen_statement-in-Statement-e-2.auto.list
+one-shape_of-list-else-seen-eq0 t c = c.gen_statement-in-Statement-e.auto.list
 
 pub one-shape_of-scratch-else-seen-eq0 : goal.one-shape_of-scratch-else-seen-eq0
-one-shape_of-scratch-else-seen-eq0 t c = c.gen_statement-in-Statement-e-2.auto.scratch
+one-shape_of-scratch-else-seen-eq0 t c = c.gen_statement-in-Statement-e.auto.scratch
 
 pub one-returns-else-seen-eq0 : goal.one-returns-else-seen-eq0
-one-returns-else-seen-eq0 t c = rw (c.in-Element.is, element_at (is_node _ _ _ c.args.t.now.within refl) c.element-e-in-Element.ensures, c.in-Statement-e-2.is, lt-ltb 0 c.args.seen (omega (arith, c.if-seen-eq0.false))) c.gen_statement-in-Statement-e-2.ensures
+one-returns-else-seen-eq0 t c = rw (c.in-Element.is, element_at (is_node _ _ _ c.args.t.now.within refl) c.element-e-in-Element.ensures, c.in-Statement-e.is, lt-ltb 0 c.args.seen (omega (arith, c.if-seen-eq0.false))) c.gen_statement-in-Statement-e.ensures
+
+pub gen_expr-returns-in_default : goal.gen_expr-returns-in_default
+gen_expr-returns-in_default t c = rw (no_expr (is_node _ _ _ c.args.t.now.within c.node-node.ensures.node) c.args.discard c.in_default.not-Expr c.in_default.not-Case c.in_default.not-ObjectField) (idle c.requires.fine)
+
+pub gen_statement-returns-in_default : goal.gen_statement-returns-in_default
+gen_statement-returns-in_default t c = rw (no_statement (is_node _ _ _ c.args.t.now.within c.node-node.ensures.node) (loop_of c.args.lp) c.in_default.not-Statement) (idle c.requires.fine)

@@ -1,13 +1,11 @@
 -- The ring: each function does its step of the definition.
-use Prim.Native.Nat.{◌+◌, ◌*◌, ◌-◌, ◌≤◌}
+use Prim.Native.Nat.{◌+◌, ◌*◌}
 use mathlib.Core.Path.{◌≡◌}
 use mathlib.Core.Bool.{cond}
 use lib.ListN.{length}
 use Rattle.rows.specs.Rows.{loop_of}
 use Rattle.leaves.specs.Args.{Args}
-use Rattle.rows.specs.Kept.{Kept}
 use Rattle.statement.proofs.Lists.{PopInv}
-use Prim.Native.Nat.{ℕ}
 use Rattle.statement.proofs.+ring.Given as goal
 
 abbrev pub decreases-adjust : goal.decreases-adjust
@@ -30,10 +28,7 @@ decreases-each l = 8 * l.t.now.part.n + 3
 
 abbrev pub invariant-each-loop-top : goal.invariant-each-loop-top
 invariant-each-loop-top l =
-    (last : ℕ) → last - l.start ≤ length l.initial.scratch → Kept l.t.script.bytes.now l.t.script.layout l.what (loop_of l.lp) l.start l.initial.scratch l.initial.top l.start last → PopInv l.t.script.bytes.now l.t.script.layout l.what (loop_of l.lp) l.first l.default l.initial.list l.initial.scratch last l.start l.initial.cur l.list l.scratch l.top l.cur l.seen l.cases
-
-abbrev pub decreases-each-loop-top : goal.decreases-each-loop-top
-decreases-each-loop-top l = l.top
+    PopInv l.t.script.bytes.now l.t.script.layout l.what (loop_of l.lp) l.first l.default l.initial.list l.initial.scratch l.t.part.end l.start l.initial.cur l.list l.scratch l.top l.cur l.seen l.cases
 
 abbrev pub decreases-ends : goal.decreases-ends
 decreases-ends l = 8 * l.t.now.part.n + 4
