@@ -1,6 +1,6 @@
 -- The decoded record (`hir.rs`) of a record's words, by document 01's numbers. Of words that keep the rules nothing is lost; of others a bool is
 -- whether it is not 0, and a number too large for its type is cut to it.
-use Rattle.std.specs.Prelude.{ℕ, ◌-◌, ◌/◌, ◌%◌, ◌^◌, List, [], ◌∷◌, Bool, not, cond, ltb, eqb, ℤ, pos, negsuc, get_or}
+use Rattle.std.specs.Prelude.{ℕ, ◌-◌, ◌/◌, ◌%◌, ◌^◌, List, [], ◌∷◌, Option, Some, None, Bool, not, cond, ltb, eqb, ℤ, pos, negsuc, get_or}
 use Rattle.hir.specs.declared.Affix.{Affix}
 use Rattle.hir.specs.declared.Affix.TheVariants.{Postfix, Prefix}
 use Rattle.hir.specs.declared.UnaryOperator.{UnaryOperator}
@@ -19,8 +19,6 @@ use Rattle.hir.specs.declared.StatementKind.{StatementKind}
 use Rattle.hir.specs.declared.StatementKind.TheVariants as statement
 use Rattle.hir.specs.declared.Record.{Record}
 use Rattle.hir.specs.declared.Record.TheVariants as kind
-use Rattle.decode.specs.declared.Name.{Name}
-use Rattle.decode.specs.declared.Name.TheVariants as name
 use Rattle.decode.specs.declared.Function.{Function}
 use Rattle.script_records.specs.Layout.{Words, supported}
 
@@ -109,8 +107,8 @@ record_of w =
     (when 98 w.kind (kind.ObjectField w.a)
     (when 99 w.kind (kind.Parameter w.a (w.b % 512)) (plain_of w.kind)))))))))))))
 
-abbrev pub name_of : ℕ → Name
-name_of a = cond (eqb a 0) name.None (name.Index (a - 1))
+abbrev pub name_of : ℕ → Option ℕ
+name_of a = cond (eqb a 0) None (Some (a - 1))
 
 -- bits 0 to 8
 abbrev pub marks_of : ℕ → List Bool

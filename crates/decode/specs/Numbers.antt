@@ -1,5 +1,5 @@
 -- Document 01's kind and values for every case of a decoded record.
-use Rattle.std.specs.Prelude.{ℕ, ◌+◌, ◌-◌, ◌*◌, ◌^◌, List, [], ◌∷◌, Bool, true, false, ℤ, pos, negsuc}
+use Rattle.std.specs.Prelude.{ℕ, ◌+◌, ◌-◌, ◌*◌, ◌^◌, List, [], ◌∷◌, Option, Some, None, Bool, true, false, ℤ, pos, negsuc}
 use Rattle.hir.specs.declared.Affix.{Affix}
 use Rattle.hir.specs.declared.Affix.TheVariants.{Postfix, Prefix}
 use Rattle.hir.specs.declared.UnaryOperator.{UnaryOperator}
@@ -19,8 +19,6 @@ use Rattle.hir.specs.declared.StatementKind.{StatementKind}
 use Rattle.hir.specs.declared.StatementKind.TheVariants as statement
 use Rattle.hir.specs.declared.Record.{Record}
 use Rattle.hir.specs.declared.Record.TheVariants as kind
-use Rattle.decode.specs.declared.Name.{Name}
-use Rattle.decode.specs.declared.Name.TheVariants as name
 use Rattle.decode.specs.declared.Function.{Function}
 use Rattle.script_records.specs.Layout.{Words}
 
@@ -187,9 +185,9 @@ marks_number [] = 0
 marks_number (m ∷ ms) = bit m + 2 * marks_number ms
 
 -- a name's index plus 1, or 0 for none
-abbrev pub name_number : Name → ℕ
-name_number name.None = 0
-name_number (name.Index i) = i + 1
+abbrev pub name_number : Option ℕ → ℕ
+name_number None = 0
+name_number (Some i) = i + 1
 
 abbrev pub function_words : Function → Words
 function_words f = words 49 (name_number f.name) f.register_count (marks_number f.marks)

@@ -31,7 +31,7 @@ use Rattle.tree.specs.Within.{Within, IsNode, record_named, kid_at, list_at}
 use Rattle.tree.proofs.Nodes.{is_node, trees_none}
 use Rattle.tree.proofs.ByKind.{either}
 use Rattle.tree.proofs.Meanings.{kid_zero, list_zero}
-use Rattle.access.proofs.Texts.{text_is}
+use Rattle.access.proofs.Texts.{text_is, no_text_lem, no_text_named}
 use Rattle.rows.proofs.Passed.{below, none_below, below_end, child_kind}
 
 -- a record's name
@@ -47,19 +47,32 @@ pub parameter_name : (F : List ℕ) (i : ℕ) {root : Record} {s n : ℕ} → ro
 unfolding resolved
 parameter_name F i {s = s} e h t = (rw e (text_is F s h), rw e at t)
 
+pub other_name : (root : Record) → ((s : ℕ) → root ≡ kind.ObjectField s → ⊥) → ((s n : ℕ) → root ≡ kind.Parameter s n → ⊥) →
+    (F : List ℕ) (i : ℕ) → length F ≤ 1048576 → T (record_named F i root) → Names F root 0xffff_ffff
+unfolding resolved
+other_name (kind.ObjectField s) h g F i = absurd (h s refl)
+other_name (kind.Parameter s n) h g F i = absurd (g s n refl)
+other_name (kind.Statement k) h g F i = λ _ _. (no_text_lem F, no_text_named F)
+other_name (kind.Expr k) h g F i = λ _ _. (no_text_lem F, no_text_named F)
+other_name kind.Absent h g F i = λ _ _. (no_text_lem F, no_text_named F)
+other_name (kind.List n) h g F i = λ _ _. (no_text_lem F, no_text_named F)
+other_name kind.Case h g F i = λ _ _. (no_text_lem F, no_text_named F)
+other_name kind.Default h g F i = λ _ _. (no_text_lem F, no_text_named F)
+other_name kind.Other h g F i = λ _ _. (no_text_lem F, no_text_named F)
+
 -- a hoisted function
 
 abbrev Looked : Record → Bool → Type 0
 Looked root x = (F : List ℕ) (kids : Forest Meaning) → hoisted (rec_of F root) kids ≡ (x && is_named (shape_of (kid 0 kids).rec))
 
-module _ (F : List ℕ) (l : Layout) (p : Part) {t : Node} (w : Within F l p) (e : t ≡ node_of F l p) where
+module _ (F : List ℕ) (l : Layout) (p : Part) {t : Node Part} (w : Within F l p) (e : t ≡ node_of F l p) where
   inner : (x : Bool) → Looked t.root x → hoisted (kid_at F p 0).rec (list_at F p 0) ≡ (x && is_named (shape_of (kid 0 (meanings (trees F t.children))).rec))
   inner x h = let i = is_node F l p w e in rw (kid_zero F l p i, list_zero F l p i) (h F (meanings (trees F t.children)))
 
   pub not_expr : (x : Bool) → x ≡ false → Looked t.root x → false ≡ hoisted (kid_at F p 0).rec (list_at F p 0)
   not_expr x q h = sym (rw q at (inner x h))
 
-  pub by_shape : (x : Bool) {k : Node} (s : Shape) → x ≡ true → Looked t.root x → k ≡ node_of F l t.children → s ≡ shape_of (rec_of F k.root) →
+  pub by_shape : (x : Bool) {k : Node Part} (s : Shape) → x ≡ true → Looked t.root x → k ≡ node_of F l t.children → s ≡ shape_of (rec_of F k.root) →
       is_named s ≡ hoisted (kid_at F p 0).rec (list_at F p 0)
   by_shape x {k} s q h m v =
       let within = (is_node F l p w e).kids_within in

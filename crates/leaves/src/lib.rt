@@ -17,6 +17,7 @@ ghost use Rattle.list_slice.specs.File.{names_string, text_in};
 ghost use Rattle.codegen_state.specs.Does.{Fine, Named, Does};
 ghost use Rattle.tree.specs.Trees.{rec_of, is_labelled, is_case, meant};
 ghost use Rattle.tree.specs.Within.{Within, constant_named, target_named, record_named, meanings_at, kid_at, list_at};
+ghost use Rattle.tree.specs.Handle.{file_of};
 ghost use Rattle.access.specs.Accesses.{access_of};
 ghost use Rattle.rows.specs.Rows.{label_of, any_hoisted};
 ghost use Rattle.leaves.specs.Args.{Args, Unchanged};
@@ -30,9 +31,9 @@ use hir::{Affix, ConstantKind, EnumeratorTarget, Record, StatementKind};
 use operators::shape::{Shape, shape_of};
 use pcode::{Op, PushValue};
 use rows::Target;
-use script_records::layout::{Layout, known_row, string};
-use script_records::part::{Part, last_tree};
-use tree::{Counts, Element, kind_at, node_at, rest_of};
+use script_records::layout::{Layout, ScriptFile, known_row, string};
+use script_records::part::Part;
+use tree::{Counts, Element, Trees, kind_at, node_at, rest_of};
 
 // An assignment whose value is discarded, or wanted.
 pub fn assign_value(list: &mut [u32], b: CodeBuilder, discard: bool, access: Access) -> CodeBuilder
@@ -47,24 +48,23 @@ pub fn assign_value(list: &mut [u32], b: CodeBuilder, discard: bool, access: Acc
 
 // A constant as an expression: a literal needs no access.
 pub fn read_constant(
-    file: &[u8],
-    l: Layout,
+    script: &ScriptFile,
     list: &mut [u32],
     b: CodeBuilder,
     c: ConstantKind,
 ) -> CodeBuilder
     requires fine { Fine b list.old }
-    requires l_value { l ≡ layout_of file.now }
-    requires file_len_bound { length file.now ≤ 1048576 }
-    requires t { T (constant_named file.now c) }
-    requires named { Named file.now b list.old }
-    ensures { Does file.now (steps.◌>>=◌ (access.for_constant (constant_over (string_at file.now (layout_of file.now)) c)) access.get_value)
-        b list.old tt result list.new }
+    requires l_value { script.now.layout ≡ layout_of script.now.bytes.now }
+    requires file_len_bound { length script.now.bytes.now ≤ 1048576 }
+    requires t { T (constant_named script.now.bytes.now c) }
+    requires named { Named script.now.bytes.now b list.old }
+    ensures { let F = script.now.bytes.now in
+        Does F (steps.◌>>=◌ (access.for_constant (constant_over (string_at F (layout_of F)) c)) access.get_value) b list.old tt result list.new }
 {
     match c {
-        ConstantKind::String(s) => push_string(file, l, list, b, s),
+        ConstantKind::String(s) => push_string(script.bytes, script.layout, list, b, s),
         ConstantKind::Identifier(s) => {
-            let a = for_identifier(file, l, list, b, s);
+            let a = for_identifier(script.bytes, script.layout, list, b, s);
             let b1 = a.b;
             let access = a.access;
             get_value(list, b1, access)
@@ -78,48 +78,49 @@ pub fn read_constant(
 
 // A builder, and the trees that are still to be generated.
 #[derive(Clone, Copy)]
-pub struct Pushed {
+pub struct Pushed<'a> {
     pub b: CodeBuilder,
-    pub left: Part,
+    pub left: Trees<'a>,
 }
 
 // The arguments without the Voids among the last, which generate nothing.
-fn without_voids(file: &[u8], l: Layout, p: Part) -> Part
-    requires { Within file.now l p }
-    ensures { Unchanged file.now l p result }
+fn without_voids<'a>(t: &Trees<'a>) -> Trees<'a>
+    ensures script { result.script ≡ t.now.script }
+    ensures unchanged { Unchanged (file_of t.now) t.now.script.layout t.now.part result.part }
 {
-    let mut left = p;
-    while kind_at(file, l, left) == 48 {
-        let before = rest_of(file, l, left);
-        left = before;
+    let mut left = *t;
+    while left.kind() == 48 {
+        left = left.rest();
     }
     left
 }
 
 // Arguments run from the last to the first: the constants among the last of them are pushed here, without a call for each expression.
-pub fn push_constants(file: &[u8], l: Layout, p: Part, list: &mut [u32], b: CodeBuilder) -> Pushed
+pub fn push_constants<'a>(t: &Trees<'a>, list: &mut [u32], b: CodeBuilder) -> Pushed<'a>
     requires fine { Fine b list.old }
-    requires within { Within file.now l p }
-    requires named { Named file.now b list.old }
-    ensures { Args file.now l list.old p b list.new result.left result.b }
+    requires named { Named (file_of t.now) b list.old }
+    ensures script { result.left.script ≡ t.now.script }
+    ensures args { Args (file_of t.now) t.now.script.layout list.old t.now.part b list.new result.left.part result.b }
 {
-    let mut rest = without_voids(file, l, p);
+    let mut left = without_voids(t);
     let mut cur = b;
-    while rest.n != 0 {
+    while !left.is_empty() {
         if cur.refused != 0 {
-            return Pushed { b: cur, left: rest };
+            return Pushed { b: cur, left };
         }
-        let t = last_tree(file, l, rest);
-        let row = t.row;
-        if row.kind != 32 {
-            return Pushed { b: cur, left: rest };
+        let tree = left.script.last_tree(left.part);
+        if tree.row.kind != 32 {
+            return Pushed { b: cur, left };
         }
-        let c = constant(row);
-        cur = read_constant(file, l, list, cur, c);
-        let before = t.before;
-        rest = without_voids(file, l, before);
+        let c = constant(tree.row);
+        cur = read_constant(&t.script, list, cur, c);
+        let before = Trees {
+            script: t.script,
+            part: tree.before,
+        };
+        left = without_voids(&before);
     }
-    Pushed { b: cur, left: rest }
+    Pushed { b: cur, left }
 }
 
 // Break and Continue without a label emit nothing.
@@ -135,28 +136,27 @@ pub fn jump_to(list: &mut [u32], b: CodeBuilder, target: Target) -> CodeBuilder
 
 // The variable or register of a loop over an object's names gets register 0.
 pub fn gen_target(
-    file: &[u8],
-    l: Layout,
+    script: &ScriptFile,
     list: &mut [u32],
     b: CodeBuilder,
     target: EnumeratorTarget,
 ) -> CodeBuilder
     requires fine { Fine b list.old }
-    requires l_value { l ≡ layout_of file.now }
-    requires file_len_bound { length file.now ≤ 1048576 }
-    requires t { T (target_named file.now target) }
-    requires named { Named file.now b list.old }
-    ensures { Does file.now (statement.gen_target (target_over (string_at file.now (layout_of file.now)) target))
-        b list.old tt result list.new }
+    requires l_value { script.now.layout ≡ layout_of script.now.bytes.now }
+    requires file_len_bound { length script.now.bytes.now ≤ 1048576 }
+    requires t { T (target_named script.now.bytes.now target) }
+    requires named { Named script.now.bytes.now b list.old }
+    ensures { let F = script.now.bytes.now in
+        Does F (statement.gen_target (target_over (string_at F (layout_of F)) target)) b list.old tt result list.new }
 {
     match target {
         EnumeratorTarget::Variable { name, declare } => {
             if declare {
-                let b1 = push_string(file, l, list, b, name);
+                let b1 = push_string(script.bytes, script.layout, list, b, name);
                 let b2 = push(list, b1, PushValue::Register(0));
                 return action(list, b2, Op::DefineLocal);
             }
-            let a = for_identifier(file, l, list, b, name);
+            let a = for_identifier(script.bytes, script.layout, list, b, name);
             let b1 = a.b;
             let access = a.access;
             let b2 = push(list, b1, PushValue::Register(0));
@@ -263,14 +263,8 @@ pub fn name_of(root: Record) -> u32
 {
     match root {
         Record::ObjectField(key) => key,
-        Record::Parameter { name, register } => name,
-        Record::Statement(k) => 0xffff_ffff,
-        Record::Expr(k) => 0xffff_ffff,
-        Record::Absent => 0xffff_ffff,
-        Record::List(n) => 0xffff_ffff,
-        Record::Case => 0xffff_ffff,
-        Record::Default => 0xffff_ffff,
-        Record::Other => 0xffff_ffff,
+        Record::Parameter { name, .. } => name,
+        _ => 0xffff_ffff,
     }
 }
 

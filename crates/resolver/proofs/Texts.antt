@@ -194,7 +194,7 @@ onto_none (s ∷ ss) = ap (with_text s) (onto_none ss)
 abbrev names : List ℕ → Part → List Str
 names F p = param_names (params_of (trees F p))
 
-names_more : (F : List ℕ) (l : Layout) (p : Part) {r : Node} → IsNode F l p r → 0 < p.n → names F p ≡ names F r.before ++ ((param (rec_of F r.root)).name ∷ [])
+names_more : (F : List ℕ) (l : Layout) (p : Part) {r : Node Part} → IsNode F l p r → 0 < p.n → names F p ≡ names F r.before ++ ((param (rec_of F r.root)).name ∷ [])
 unfolding params_of
 names_more F l p i h = rw (trees_more F l p i h) (map_append (λ (x : Param). x.name) (params_of (trees F _)) (param (rec_of F _) ∷ []))
 
@@ -219,10 +219,10 @@ module _ {F : List ℕ} {l : Layout} {p left : Part} {t : Text} (v : ParamsInv F
   pub params_few : Few t
   params_few = record { small = v.small; few = omega (arith, v.few, v.most) }
 
-  pub params_less : {r : Node} → r ≡ node_of F l left → (left.n ≡ 0 → ⊥) → r.before.n < left.n
+  pub params_less : {r : Node Part} → r ≡ node_of F l left → (left.n ≡ 0 → ⊥) → r.before.n < left.n
   params_less e z = omega (arith, (is_node F l left v.within e).apart)
 
-  pub params_again : {r : Node} → r ≡ node_of F l left → (left.n ≡ 0 → ⊥) → {n : ℕ} → n ≡ name_ref r.root → {t' : Text} → t' ≡ with_text (text_in F n) t → Ready F l →
+  pub params_again : {r : Node Part} → r ≡ node_of F l left → (left.n ≡ 0 → ⊥) → {n : ℕ} → n ≡ name_ref r.root → {t' : Text} → t' ≡ with_text (text_in F n) t → Ready F l →
       ParamsInv F l p r.before t'
   params_again {r} e z q u h =
       let i = is_node F l left v.within e in

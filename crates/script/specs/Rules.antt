@@ -3,8 +3,6 @@ use Rattle.std.specs.Prelude.{ℕ, zero, suc, ◌+◌, ◌-◌, List, [], ◌∷
 use Rattle.hir.specs.Hir.{Str}
 use Rattle.hir.specs.Tree.{Forest, depth}
 use Rattle.utf8.specs.Utf8.{utf8}
-use Rattle.script.specs.declared.Answer.{Answer}
-use Rattle.script.specs.declared.Answer.TheVariants.{Accepted, BrokenRule, NotUtf8, Unsupported, OverLimit}
 use Rattle.script_records.specs.declared.layout.Layout.{Layout}
 use Rattle.script_records.specs.declared.layout.Row.{Row}
 use Rattle.script_records.specs.Layout.{Words, words_of, has_trailer, areas_touch, supported, layout_of, end_at, start_at, strings_of, rows_of, row_in, span_at, forest, children_of}
@@ -75,11 +73,3 @@ check_of F =
     (cond (not (all_utf8 (strings_of F (layout_of F)))) 2
     (cond (not (all_supported (rows_of F (layout_of F)) (layout_of F).count)) 3
     (cond (ltb max_depth (depth (tree_in F (layout_of F)))) 4 0))))
-
--- what each answer stands for: document 01's number, 0 where there is no refusal
-abbrev pub refusal_of : Answer → ℕ
-refusal_of Accepted = 0
-refusal_of BrokenRule = 1
-refusal_of NotUtf8 = 2
-refusal_of Unsupported = 3
-refusal_of OverLimit = 4

@@ -2,59 +2,46 @@
 
 // The script file: its rules, and what lowering reads of it.
 ghost use Rattle.std.specs.Prelude.{◌≡◌};
+ghost use Rattle.refusal.specs.Refusal.{refusal_of};
 ghost use Rattle.script_records.specs.Layout.{layout_of};
-ghost use Rattle.script.specs.Rules.{rules_hold, check_of, refusal_of};
+ghost use Rattle.script.specs.Rules.{rules_hold, check_of};
 
 use crate::rules::{ends_hold, kinds_supported, records_hold, strings_hold, too_deep};
-use script_records::layout::{Layout, areas_hold, layout_of};
+use refusal::Refusal;
+use script_records::layout::{ScriptFile, areas_hold};
 
 mod forms;
 mod record_rules;
 mod rules;
 
-// Accepted, or the refusal: 1, 2, 3, and 4 for a file over the limit of bytes or of depth.
-#[derive(Clone, Copy)]
-pub enum Answer {
-    Accepted,
-    BrokenRule,
-    NotUtf8,
-    Unsupported,
-    OverLimit,
-}
-
-fn rules_hold(file: &[u8], l: Layout) -> bool
-    requires { l ≡ layout_of file.now }
-    ensures { result ≡ rules_hold file.now }
+#[tactic(auto, unfolding(crate::specs::Rules::rules_hold))]
+fn rules_hold(script: &ScriptFile) -> bool
+    requires { script.now.layout ≡ layout_of script.now.bytes.now }
+    ensures { result ≡ rules_hold script.now.bytes.now }
 {
-    if !areas_hold(file) {
-        return false;
-    }
-    if !ends_hold(file, l) {
-        return false;
-    }
-    records_hold(file, l)
+    areas_hold(script.bytes) && ends_hold(script) && records_hold(script)
 }
 
-// Which refusal a file of any content gets.
+// Accepts a file of any content, or refuses it: by 4 for its bytes, 1, 2, 3, or 4 for its depth.
 #[tactic(auto, using(crate::proofs::RuleLaws::check_rules))]
-pub fn check(file: &[u8]) -> Answer
+pub fn check(file: &[u8]) -> Result<(), Refusal>
     ensures { refusal_of result ≡ check_of file.now }
 {
     if 1048576 < file.len() {
-        return Answer::OverLimit;
+        return Err(Refusal::OverLimit);
     }
-    let l = layout_of(file);
-    if !rules_hold(file, l) {
-        return Answer::BrokenRule;
+    let script = ScriptFile::new(file);
+    if !rules_hold(&script) {
+        return Err(Refusal::BrokenRule);
     }
-    if !strings_hold(file, l) {
-        return Answer::NotUtf8;
+    if !strings_hold(&script) {
+        return Err(Refusal::NotUtf8);
     }
-    if !kinds_supported(file, l) {
-        return Answer::Unsupported;
+    if !kinds_supported(&script) {
+        return Err(Refusal::Unsupported);
     }
-    if too_deep(file, l) {
-        return Answer::OverLimit;
+    if too_deep(&script) {
+        return Err(Refusal::OverLimit);
     }
-    Answer::Accepted
+    Ok(())
 }

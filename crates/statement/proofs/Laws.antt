@@ -3,6 +3,7 @@ use Prim.Native.Nat.{ℕ, ◌+◌, ◌-◌, ◌≤◌, ◌<◌}
 use mathlib.Core.Path.{◌≡◌, refl, sym, ap, ◌∙◌}
 use mathlib.Core.List.{List, []}
 use mathlib.Core.Bool.{Bool, true, false, cond, not, ◌&&◌, ◌||◌}
+use mathlib.Core.Logic.{◌⊎◌, inl, inr}
 use mathlib.Core.Option.{get_or, none, some}
 use native.Mathlib.Omega.{arith}
 use lib.Dec.{T, leb, ltb, eqb}
@@ -12,6 +13,7 @@ use Rattle.hir.specs.declared.Affix.{Affix}
 use Rattle.hir.specs.Tree.{Forest}
 use Rattle.hir.specs.declared.ConstantKind.{ConstantKind}
 use Rattle.hir.specs.declared.ConstantKind.TheVariants as code-constant
+use Rattle.hir.specs.declared.ExprKind.{ExprKind}
 use Rattle.hir.specs.declared.ExprKind.TheVariants as expr-kind
 use Rattle.hir.specs.declared.StatementKind.{StatementKind}
 use Rattle.hir.specs.declared.Record.{Record}
@@ -24,12 +26,14 @@ use Rattle.script_records.specs.declared.part.Part.{Part}
 use Rattle.script_records.specs.Layout.{layout_of, string_at}
 use Rattle.script.specs.Resolve.{resolved, statement_over}
 use Rattle.lowering.specs.Builder.{Step, ◌>>◌, done, when, action, plain_action, push, define_function, define_delta, name_delta}
+use Rattle.lowering.specs.Meaning as meaning
 use Rattle.lowering.specs.Meaning.{Loop, Meaning, nth, list, present, element, shape_of, literal}
 use Rattle.lowering.specs.Statement.{meanings, expr, exprs, all_discarded, branch, has_case, has_default, no_loop, header, gen_statements, gen_values, gen_condition, default_label, is_prefix, bit, gen_start_drag, gen_statement, expr_of, statement_of, for_shape}
 use Rattle.lowering.proofs.Laws.{kid_law, list_law}
 use Rattle.list_slice.specs.File.{header_in, params_of, names_string, names_function}
 use Rattle.tree.specs.declared.Node.{Node}
 use Rattle.tree.specs.declared.Element.{Element}
+use Rattle.tree.specs.declared.Element.TheVariants as code-element
 use Rattle.tree.specs.declared.Counts.{Counts}
 use Rattle.tree.specs.Trees.{trees, rec_of, element_of, meant, counts_of}
 use Rattle.tree.specs.Within.{live, constant_named, record_named, Within, IsNode, IsList, meanings_at, kid_at, list_at}
@@ -44,11 +48,38 @@ use Rattle.operators.specs.declared.shape.Literal.TheVariants as code-literal
 use Rattle.operators.specs.Shapes.{root_shape, constant_literal, shape_literal}
 use Rattle.operators.proofs.Shapes.{shape_named}
 use Rattle.builder.specs.Labels.{labels_of_forest, elements_from}
-use Rattle.rows.specs.Rows.{cases_of}
+use Rattle.rows.specs.Rows.{cases_of, conditional}
 use Rattle.leaves.proofs.Args.{expr_any, expr_at}
 use Rattle.statement.proofs.Rows.{has_case_is, has_label_is, labels_is, cases_is, default_is}
 
-module _ {F : List ℕ} {l : Layout} {p : Part} {t : Node} (n : IsNode F l p t) where
+-- a record that is no expression and stands for none, and one that is no statement, generate nothing
+
+without_expr : (F : List ℕ) (r : Record) (ms : Forest Meaning) (d : Bool) → ((k : ExprKind) → r ≡ kind.Expr k → ⊥) → (r ≡ kind.Case → ⊥) → ((s : ℕ) → r ≡ kind.ObjectField s → ⊥) →
+    expr_of (rec_of F r) ms d ≡ done
+unfolding resolved
+without_expr F (kind.Expr k) ms d x y z = absurd (x k refl)
+without_expr F kind.Case ms d x y z = absurd (y refl)
+without_expr F (kind.ObjectField s) ms d x y z = absurd (z s refl)
+without_expr F (kind.Statement k) ms d x y z = refl
+without_expr F kind.Absent ms d x y z = refl
+without_expr F (kind.List n) ms d x y z = refl
+without_expr F (kind.Parameter s n) ms d x y z = refl
+without_expr F kind.Default ms d x y z = refl
+without_expr F kind.Other ms d x y z = refl
+
+without_statement : (F : List ℕ) (r : Record) (ms : Forest Meaning) (lp : Loop) → ((k : StatementKind) → r ≡ kind.Statement k → ⊥) → statement_of (rec_of F r) ms lp ≡ done
+unfolding resolved
+without_statement F (kind.Statement k) ms lp x = absurd (x k refl)
+without_statement F (kind.Expr k) ms lp x = refl
+without_statement F kind.Absent ms lp x = refl
+without_statement F (kind.List n) ms lp x = refl
+without_statement F (kind.ObjectField s) ms lp x = refl
+without_statement F (kind.Parameter s n) ms lp x = refl
+without_statement F kind.Case ms lp x = refl
+without_statement F kind.Default ms lp x = refl
+without_statement F kind.Other ms lp x = refl
+
+module _ {F : List ℕ} {l : Layout} {p : Part} {t : Node Part} (n : IsNode F l p t) where
   pub rec_is : (kid_at F p 0).rec ≡ rec_of F t.root
   rec_is = ap (λ (m : Meaning). m.rec) (kid_zero F l p n)
 
@@ -59,17 +90,13 @@ module _ {F : List ℕ} {l : Layout} {p : Part} {t : Node} (n : IsNode F l p t) 
   -- an expression, a statement, an access
 
   -- a Case or an object's field stands for its value
-  pub case_at : (d : Bool) → t.root ≡ kind.Case → (kid_at F p 0).gen_expr d ≡ (kid_at F t.children 0).gen_expr d
+  pub value_at : (d : Bool) → (t.root ≡ kind.Case) ⊎ ((s : ℕ) × (t.root ≡ kind.ObjectField s)) → (kid_at F p 0).gen_expr d ≡ (kid_at F t.children 0).gen_expr d
   unfolding resolved
-  case_at d e = expr_any n d ∙ rw e
+  value_at d (inl e) = expr_any n d ∙ rw e
+  value_at d (inr e) = expr_any n d ∙ rw e.1
 
-  pub field_at : {k : ℕ} (d : Bool) → t.root ≡ kind.ObjectField k → (kid_at F p 0).gen_expr d ≡ (kid_at F t.children 0).gen_expr d
-  unfolding resolved
-  field_at d e = expr_any n d ∙ rw e
-
-  -- a record that is no expression
-  pub no_expr : (d : Bool) {r : Record} → t.root ≡ r → expr_of (rec_of F r) (meanings_at F t.children) d ≡ done → (kid_at F p 0).gen_expr d ≡ done
-  no_expr d e h = expr_any n d ∙ rw e h
+  pub no_expr : (d : Bool) → ((k : ExprKind) → t.root ≡ kind.Expr k → ⊥) → (t.root ≡ kind.Case → ⊥) → ((s : ℕ) → t.root ≡ kind.ObjectField s → ⊥) → (kid_at F p 0).gen_expr d ≡ done
+  no_expr d x y z = expr_any n d ∙ without_expr F t.root (meanings_at F t.children) d x y z
 
   statement_any : (lp : Loop) → (kid_at F p 0).gen_statement lp ≡ statement_of (rec_of F t.root) (meanings_at F t.children) lp
   statement_any lp = ap (λ (m : Meaning). m.gen_statement lp) (kid_zero F l p n)
@@ -79,8 +106,8 @@ module _ {F : List ℕ} {l : Layout} {p : Part} {t : Node} (n : IsNode F l p t) 
   unfolding resolved
   statement_at lp e = statement_any lp ∙ rw e
 
-  pub no_statement : (lp : Loop) {r : Record} → t.root ≡ r → statement_of (rec_of F r) (meanings_at F t.children) lp ≡ done → (kid_at F p 0).gen_statement lp ≡ done
-  no_statement lp e h = statement_any lp ∙ rw e h
+  pub no_statement : (lp : Loop) → ((k : StatementKind) → t.root ≡ kind.Statement k → ⊥) → (kid_at F p 0).gen_statement lp ≡ done
+  no_statement lp x = statement_any lp ∙ without_statement F t.root (meanings_at F t.children) lp x
 
   pub access_at : (kid_at F p 0).for_expr ≡ for_shape (shape_of (rec_of F t.root)) (meanings_at F t.children) ((kid_at F p 0).gen_expr false)
   access_at = ap (λ (m : Meaning). m.for_expr) (kid_zero F l p n) ∙ ap (λ (s : Step). for_shape (shape_of (rec_of F t.root)) (meanings_at F t.children) s) (sym (expr_any n false))
@@ -91,6 +118,15 @@ module _ {F : List ℕ} {l : Layout} {p : Part} {t : Node} (n : IsNode F l p t) 
   pub condition_law : (p.n ≡ 0 → ⊥) → (end : ℕ) → gen_condition end (meanings_at F p) ≡ all_discarded (meanings_at F t.before) >> expr (kid_at F p 0) >> action Not >> branch end
   unfolding meanings
   condition_law z end = rw (trees_more F l p n (omega arith))
+
+pub value_live : {r : Record} → (r ≡ kind.Case) ⊎ ((s : ℕ) × (r ≡ kind.ObjectField s)) → live r ≡ 1
+value_live (inl e) = ap live e
+value_live (inr e) = ap live e.1
+
+-- only a Case is tested
+pub untested : (f s c : ℕ) (m : Meaning) {e : meaning.Element} {x : Element} → e ≡ meant x → (x ≡ code-element.Default) ⊎ (x ≡ code-element.Statement) → conditional f s c m e ≡ done
+untested f s c m e (inl x) = rw (e, x)
+untested f s c m e (inr x) = rw (e, x)
 
 -- rows with and without trees
 pub none_at : (F : List ℕ) (p : Part) → p.n ≡ 0 → meanings_at F p ≡ Forest.none
@@ -170,7 +206,7 @@ delta_at : (name : Str) (g m : ℕ) (ps : List Param) (t : Bool) → define_delt
 delta_at name g m ps true = refl
 delta_at name g m ps false = refl
 
-module _ {F : List ℕ} {l : Layout} {p : Part} {t : Node} (i : IsNode F l p t) {n g m : ℕ} (e : t.root ≡ kind.Expr (expr-kind.Function n g m)) where
+module _ {F : List ℕ} {l : Layout} {p : Part} {t : Node Part} (i : IsNode F l p t) {n g m : ℕ} (e : t.root ≡ kind.Expr (expr-kind.Function n g m)) where
   pub function_at : (d : Bool) → (kid_at F p 0).gen_expr d ≡ define_function (header_in F t.number) (gen_statements no_loop (list_at F t.children 0))
   function_at d =
       expr_at i d e ∙ rw (name_at (eqb n 0) (string_at F (layout_of F) (n - 1)), list_law 1 (trees F t.children), params_are (list 1 (trees F t.children)), ← i.function_header n g m e)
