@@ -15,22 +15,16 @@ use Rattle.hir.specs.declared.ConstantKind.TheVariants as constant
 use Rattle.special_properties.specs.SpecialProperties.{same_bytes, null, undefined, get_special_property}
 use Rattle.script_records.specs.Layout.{layout_of, string_at}
 use Rattle.script.specs.Resolve.{constant_over}
-use Rattle.lowering.specs.Builder.{◌>>◌, refuse, action, plain_action, push, push_string}
+use Rattle.lowering.specs.Builder.{◌>>◌, action, plain_action, push, push_string}
 use Rattle.lowering.specs.Access.{Access, Variable, Direct, SpecialProperty, for_name, for_identifier, for_constant, store_register}
 use Rattle.list_slice.specs.File.{text_in, names_string}
 use Rattle.codegen_state.specs.declared.BuilderState.{BuilderState}
 use Rattle.codegen_state.specs.View.{value_in}
-use Rattle.codegen_state.specs.Does.{Fine, Does}
+use Rattle.codegen_state.specs.Does.{Does}
 use Rattle.tree.specs.Within.{constant_named}
-use Rattle.builder.specs.Entries.{refused_with}
-use Rattle.builder.proofs.Leaves.{refuses}
 use Rattle.access.specs.Accesses.{pushed_direct, set_and_push, call_register}
 use Rattle.access.proofs.Chains.{row, leaves}
 use Rattle.access.proofs.Texts.{text_is, no_text_lem}
-
-pub refused_now : (F w : List ℕ) {b r : BuilderState} (n : ℕ) → Fine b w → b.refused ≡ 0 → 1 ≤ n → r ≡ refused_with b n → Does F (refuse {A = Unit {0}} n) b w tt r w
-unfolding refuse
-refused_now F w n f h k e = refuses F (refuse {A = Unit {0}} n) tt n f h (λ q. omega arith) refl e
 
 module _ (F : List ℕ) {b r : BuilderState} {w w' : List ℕ} where
   pub null_name : (s : ℕ) → same_bytes (text_in F s) null ≡ true → Does F (push Null) b w tt r w' →
