@@ -6,7 +6,7 @@ ghost use Rattle.tree.specs.Within.{Within};
 ghost use Rattle.rows.specs.Passed.{bit, passes_at, passed};
 
 use script_records::layout::{Layout, known_row};
-use script_records::part::{Part, minus};
+use script_records::part::Part;
 use tree::kind_at;
 
 fn bit(x: bool) -> usize
@@ -20,7 +20,7 @@ fn is_under(file: &[u8], l: Layout, e: usize, kind: u32) -> bool
     requires { (0 < e) × HasRow file.now l (e - 1) }
     ensures { result ≡ eqb (row_in (rows_of file.now l) (e - 2)).kind kind }
 {
-    let below = known_row(file, l, minus(e, 2));
+    let below = known_row(file, l, e.saturating_sub(2));
     below.kind == kind
 }
 
@@ -71,7 +71,7 @@ pub fn is_passed(
         if n == 0 {
             return false;
         }
-        e = minus(e, n);
+        e = e.saturating_sub(n);
         left -= 1;
     }
     false

@@ -17,7 +17,7 @@ pub returns-then-n-eq0 : goal.returns-then-n-eq0
 returns-then-n-eq0 c = passed_stop _ _ _ _ _ _ c.loop-left-test.true (omega (arith, c.if-e-start.false)) c.passes-n.ensures c.if-n-eq0.true ∙ sym c.loop-left.invariant.1
 
 pub loop-left-preserved : goal.loop-left-preserved
-loop-left-preserved c = rw c.minus-e.ensures (omega (arith, c.loop-left.invariant.0), c.loop-left.invariant.1 ∙ passed_on _ _ _ _ _ _ c.loop-left-test.true (omega (arith, c.if-e-start.false)) c.passes-n.ensures c.if-n-eq0.false)
+loop-left-preserved c = rw c.saturating_sub-e.ensures (omega (arith, c.loop-left.invariant.0), c.loop-left.invariant.1 ∙ passed_on _ _ _ _ _ _ c.loop-left-test.true (omega (arith, c.if-e-start.false)) c.passes-n.ensures c.if-n-eq0.false)
 
 pub returns : goal.returns
 returns c = passed_none _ _ _ _ _ _ c.loop-left-test.false ∙ sym c.loop-left.invariant.1
