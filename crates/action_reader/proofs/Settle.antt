@@ -41,12 +41,6 @@ pub record Settling (w₀ : List ℕ) (s : Walk) (ps w : List ℕ) (low top : �
   pub to : top ≤ s.span.base
   pub half : (lows xs up : List Entry) (ends : List ℕ) → Given w₀ s lows xs up ends → Half ps (top - s.top) lows xs up ends w
 
-none_moved : {w : List ℕ} {s : Walk} {ps : List ℕ} {lows xs up : List Entry} {ends : List ℕ} (k : ℕ) → k ≡ 0 → Given w s lows xs up ends → Half ps k lows xs up ends w
-none_moved {lows = lows} k e g = rw e (record { landed = refl; words = rw (append-nil lows) g.words })
-
-pub settle_holds : {w : List ℕ} {s : Walk} {ps : List ℕ} → s.top ≤ s.span.base → Settling w s ps w s.low s.top
-settle_holds {s = s} h = record { long = refl; step = omega arith; from = omega arith; to = h; half = λ lows xs up ends g. none_moved (s.top - s.top) (omega arith) g }
-
 abbrev nothing : Entry
 nothing = entry 0 0 0
 
@@ -179,13 +173,3 @@ module _ {w₀ : List ℕ} {s : Walk} {w : List ℕ} {low top : ℕ} (i : Settli
       let a = code_is i more cap down lows xs up ends g in
       let b = first_is i more cap down lows xs up ends g in
       lost i more cap down lows xs up ends g (rw (a, b) at q)
-
-  pub settle_done : top ≡ s.span.base → (lows xs up : List Entry) (ends : List ℕ) → Given w₀ s lows xs up ends → Moved s lows xs up ends low w
-  settle_done e lows xs up ends g =
-      let m : top - s.top ≡ length xs = omega (arith, g.own_is, i.from) in
-      let h : Half ps (length xs) lows xs up ends w = subst (λ (j : ℕ). Half ps j lows xs up ends w) m (i.half lows xs up ends g) in
-      record {
-        landed = rw (take-length xs) at h.landed;
-        words = rw (take-length xs, drop-length xs) at h.words;
-        low_is = omega (arith, g.low_is, g.own_is, i.step);
-      }

@@ -5,6 +5,13 @@ ghost use Rattle.action_reader.specs.State.{advanced, single_after, open_after, 
 
 use builder::entries::put;
 
+// The most entries, actions, and pushed values that the list slice has room for.
+pub const MAX_ENTRIES: usize = 4096;
+
+pub const MAX_ACTIONS: usize = 1024;
+
+pub const MAX_VALUES: usize = 2048;
+
 // Where a list ends in the bytes and among the entries, and where its positions begin in the table.
 #[derive(Clone, Copy)]
 pub struct Span {
@@ -28,8 +35,8 @@ pub struct Walk<'a> {
     pub places: usize,
     pub depth: usize,
     pub pool: usize,
-    pub table: [u32; 1024],
-    pub outer: [Span; 1024],
+    pub table: [u32; MAX_ACTIONS],
+    pub outer: [Span; MAX_ACTIONS],
 }
 
 impl Walk<'_> {

@@ -79,6 +79,7 @@ fn is_short(code: u8) -> bool
     )
 }
 
+#[tactic(auto, unfolding(crate::specs::Shape::data_reader))]
 // The record at `at` with this code and the data `d`; `pool` is the pool's count of strings.
 fn with_data(d: &[u8], code: u8, at: usize, pool: usize) -> Option<Content>
     requires { at + 3 < 2 ^ 64 }
