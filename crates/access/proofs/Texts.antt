@@ -1,13 +1,13 @@
 -- The string of a reference, in a file of the allowed size; and a property's number.
 use Prim.Native.Nat.{ℕ, suc, ◌+◌, ◌-◌, ◌≤◌, ◌<◌}
-use mathlib.Core.Path.{◌≡◌, refl, sym}
+use mathlib.Core.Path.{◌≡◌, refl}
 use mathlib.Core.Bool.{Bool, true, false, cond, ◌||◌}
 use mathlib.Core.List.{List, [], ◌∷◌}
-use mathlib.Core.Option.{some, none-ne-some, some-injective}
 use native.Mathlib.Omega.{arith}
 use lib.Dec.{T, eqb, ltb}
 use lib.ListN.{length}
 use borrow.Author.Tests.{eqb-true}
+use Rattle.std.specs.Prelude.{Some}
 use Rattle.script_records.specs.Layout.{layout_of, start_at, string_at}
 use Rattle.script_records.proofs.LayoutLaws.{end_short}
 use Rattle.special_properties.specs.SpecialProperties.{names, same_spelling, first_from, get_special_property}
@@ -42,15 +42,15 @@ no_text_named F = go (ltb 4294967295 (layout_of F).strings)
     go true = tt
     go false = tt
 
-first_below : (i : ℕ) (xs : List (List ℕ)) (s : List ℕ) {n : ℕ} → some n ≡ first_from i xs s → n < i + length xs
+first_below : (i : ℕ) (xs : List (List ℕ)) (s : List ℕ) {n : ℕ} → Some n ≡ first_from i xs s → n < i + length xs
 unfolding first_from
-first_below i [] s {n} e = absurd (none-ne-some n (sym e))
+first_below i [] s {n} e = cc
 first_below i (x ∷ xs) s {n} e = go (same_spelling s x) e (λ q. first_below (suc i) xs s q)
   where
-    go : (t : Bool) → some n ≡ cond t (some i) (first_from (suc i) xs s) → (some n ≡ first_from (suc i) xs s → n < suc i + length xs) → n < i + suc (length xs)
-    go true q k = omega (arith, some-injective n i q)
+    go : (t : Bool) → Some n ≡ cond t (Some i) (first_from (suc i) xs s) → (Some n ≡ first_from (suc i) xs s → n < suc i + length xs) → n < i + suc (length xs)
+    go true q k = let e : n ≡ i = cc in omega arith
     go false q k = omega (arith, k q)
 
-pub number_below : (s : List ℕ) {n : ℕ} → some n ≡ get_special_property s → n < 22
+pub number_below : (s : List ℕ) {n : ℕ} → Some n ≡ get_special_property s → n < 22
 unfolding get_special_property
 number_below s e = omega (arith, first_below 0 names s e, names_count)

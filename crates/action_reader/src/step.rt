@@ -1,82 +1,61 @@
-// One step: a record, or the end of a list.
+// One step: a record, or the end of a body.
+ghost use Rattle.std.specs.Prelude.{◌≡◌, false};
+ghost use Rattle.action_reader.specs.State.{is_over};
 ghost use Rattle.action_reader.specs.View.{Stands};
 ghost use Rattle.action_reader.specs.Walked.{Stepped, Inside};
 
-use crate::lists::{close, finish};
-use crate::push::push;
 use crate::targets::target_of;
-use crate::walk::{Walk, open_body, refuse, single};
+use crate::walk::Walk;
 use record_reader::{Kind, head_at};
 
-// The record at which reading stands. A pool is none: it is the first record, and no other.
-fn next_record(
-    bytes: &[u8],
-    list: &mut [u32],
-    table: &mut [u32; 1024],
-    outer: &mut [usize; 3072],
-    s: Walk,
-) -> Walk
-    requires stands { Stands bytes.now list.old table.old outer.old s }
-    requires inside { Inside bytes.now s }
-    ensures { Stepped bytes.now s result list.new table.new outer.new }
-{
-    let end = s.end;
-    let h = head_at(&bytes[..end], s.at, s.pool);
-    if !h.fits {
-        return refuse(s);
-    }
-    if 1024 <= s.actions {
-        return refuse(s);
-    }
-    let next = h.next;
-    let kind = h.kind;
-    match kind {
-        Kind::Nothing => refuse(s),
-        Kind::Pool { strings: _ } => refuse(s),
-        Kind::Plain { code, first } => single(list, table, s, code, first, next),
-        Kind::Branch { code, offset } => {
-            let t = target_of(s.at, offset);
-            if !t.fits {
-                return refuse(s);
-            }
-            single(list, table, s, code, t.byte, next)
+impl Walk<'_> {
+    // The record at which reading stands. A pool is none: it is the first record, and no other.
+    fn next_record(&mut self, list: &mut [u32]) -> Option<()>
+        requires stands { Stands self.old.bytes.now list.old self.old }
+        requires inside { Inside self.old }
+        ensures { Stepped self.old self.new result list.new }
+    {
+        let end = self.span.end;
+        let h = head_at(&self.bytes[..end], self.at, self.pool)?;
+        if !h.fits {
+            return None;
         }
-        Kind::Push { values } => {
-            if 2048 - s.values < values {
-                return refuse(s);
-            }
-            push(bytes, list, table, s, values, next)
+        if 1024 <= self.actions {
+            return None;
         }
-        Kind::Function { size } => {
-            if end - next < size {
-                return refuse(s);
+        match h.kind {
+            Kind::Pool { strings: _ } => return None,
+            Kind::Plain { code, first } => self.single(list, code, first, h.next),
+            Kind::Branch { code, offset } => {
+                let target = target_of(self.at, offset)?;
+                self.single(list, code, target, h.next);
             }
-            open_body(table, outer, s, size, next)
+            Kind::Push { values } => {
+                if 2048 - self.values < values {
+                    return None;
+                }
+                self.push(list, values, h.next);
+            }
+            Kind::Function { size } => {
+                if end - h.next < size {
+                    return None;
+                }
+                self.open_body(size, h.next);
+            }
         }
+        Some(())
     }
-}
 
-pub fn step(
-    bytes: &[u8],
-    list: &mut [u32],
-    table: &mut [u32; 1024],
-    outer: &mut [usize; 3072],
-    s: Walk,
-) -> Walk
-    requires { Stands bytes.now list.old table.old outer.old s }
-    ensures { Stepped bytes.now s result list.new table.new outer.new }
-{
-    let at = s.at;
-    if s.depth != 0 {
-        if at == s.end {
-            return close(list, table, outer, s);
+    pub fn step(&mut self, list: &mut [u32]) -> Option<()>
+        requires stands { Stands self.old.bytes.now list.old self.old }
+        requires more { is_over self.old ≡ false }
+        ensures { Stepped self.old self.new result list.new }
+    {
+        if self.depth != 0 {
+            if self.at == self.span.end {
+                return self.close(list);
+            }
         }
-        return next_record(bytes, list, table, outer, s);
+        self.next_record(list)
     }
-    if at + 1 == s.end {
-        if bytes[at] == 0 {
-            return finish(list, table, s);
-        }
-    }
-    next_record(bytes, list, table, outer, s)
 }

@@ -9,7 +9,7 @@ use lib.Dec.{eqb}
 use lib.ListN.{length, get_or, set, take, drop, replicate, length-set, length-take, length-drop, length-replicate, get_or-replicate, get_or-eq_default}
 use lib.Seq.{get_or-set_other, get_or-drop, get_or-take, take-add, drop-drop, ext_get_or, drop-set-add, take-set-lt, drop-set-lt}
 use borrow.Author.Tests.{lt-ltb, le-ltb, eq-eqb, ne_eqb}
-use Rattle.decode.proofs.DecodeLaws.{any_default}
+use Rattle.std.proofs.lemmas.List.{get_or_default}
 use Rattle.pcode.specs.Pcode.{Delta}
 use Rattle.lowering.specs.Builder.{with_labels, create_label, assume_stack_delta, mark_or}
 use Rattle.list_slice.specs.Entry.{Piece, entry_of}
@@ -103,7 +103,7 @@ module _ (F : List ℕ) {b : CodeBuilder} {w : List ℕ} (l n : ℕ) (f : Fine b
 
   module _ (k : l < b.labels) where
     label_word_lem : (d : ℕ) → get_or (labels_of b w) l d ≡ get_or w (12288 + l) 0
-    label_word_lem d = any_default (labels_of b w) l d 0 (rw (length_labels f) k) ∙ get_or-take b.labels (drop 12288 w) l 0 k ∙ get_or-drop 12288 w l 0
+    label_word_lem d = get_or_default (labels_of b w) l d 0 (rw (length_labels f) k) ∙ get_or-take b.labels (drop 12288 w) l 0 k ∙ get_or-drop 12288 w l 0
 
     pub mark_again : {r : CodeBuilder} → (get_or w (12288 + l) 0 ≡ 0 → ⊥) → r ≡ refused_with b n → Does F (mark_or n l) b w tt r w
     unfolding state

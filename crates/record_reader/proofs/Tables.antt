@@ -5,6 +5,7 @@ use mathlib.Core.List.{List, [], ◌∷◌, ◌++◌, map}
 use mathlib.Core.Bool.{Bool, true, false, not, ◌&&◌}
 use mathlib.Core.Option.{Option, none, some}
 use native.Mathlib.Omega.{arith}
+use Rattle.std.proofs.Common.{Some}
 use native.Mathlib.Nat.{add-zero, add-suc, suc-add, le_of_suc-le-suc, not-suc-le-zero}
 use lib.Dec.{T, eqb, leb, ltb, ltb→lt}
 use lib.ListN.{length}
@@ -142,12 +143,12 @@ module _ (c : ℕ) (r : Bytes) (h : c < 256) where
       go none e = refl
       go (some x) e = never_true (sym e)
 
-  pub short_record : is_short c ≡ true → (p n pool : ℕ) → record { kind = kind.Plain c 0; next = n - length r; fits = true } ≡ head_of p n pool (read_record (c ∷ r))
+  pub short_record : is_short c ≡ true → (p n pool : ℕ) → Some (record { kind = kind.Plain c 0; next = n - length r; fits = true }) ≡ head_of p n pool (read_record (c ∷ r))
   unfolding is_short
   short_record y p n pool = rw tag (go (find_op short_ops c) refl y)
     where
       go : (o : Option Op) → find_op short_ops c ≡ o → elim o as (λ _. Bool) [ none ↦ false | some x ↦ true ] ≡ true →
-          record { kind = kind.Plain c 0; next = n - length r; fits = true } ≡ head_of p n pool (by_op o (dispatch (map framed data_table) c) r)
+          Some (record { kind = kind.Plain c 0; next = n - length r; fits = true }) ≡ head_of p n pool (by_op o (dispatch (map framed data_table) c) r)
       go none q e = never_true e
       go (some x) q e =
           let f = found c (λ (o : Op). ltb (row_of o).code 0x80) short_ops x all_short q in

@@ -11,6 +11,9 @@ use lib.Dec.{eqb}
 use lib.ListN.{length, get_or, set, length-append, length-set}
 use lib.Seq.{get_or-set_same, get_or-set_other}
 use borrow.Author.Tests.{ne_eqb, eqb-false}
+use Rattle.std.specs.Prelude.{Result, Ok, Err, IsErrAnd}
+use Rattle.refusal.specs.declared.Refusal.{Refusal}
+use Rattle.refusal.specs.declared.Refusal.TheVariants.{ZeroByte, TooLong, TooFar}
 use Rattle.pcode.specs.Pcode.{Branching, Item, action, mark}
 use Rattle.action_format.specs.ByPlace.{actions}
 use Rattle.action_format.specs.Offsets.{sum, position, offset}
@@ -20,7 +23,7 @@ use Rattle.resolver.specs.declared.passes.Step.{Step}
 use Rattle.resolver.specs.Walk.{count_of, end_of, start_of, piece_at, walked}
 use Rattle.resolver.specs.Sizes.{size_of, measures, all_short, all_clear}
 use Rattle.resolver.specs.Steps.{Standing, bodies, Measured, Walked, spots, Placed, all_near_in, ReadyList, Offsets}
-use Rattle.resolver.specs.Passes.{walked_at, number_at, Stands, Sized, sizes_at, nearLists, ListDone, Tried, SizesTo, Done, Passed, too_long, too_far, resolved, clear_lists, Answered, zero_byte, passed}
+use Rattle.resolver.specs.Passes.{walked_at, number_at, Stands, Sized, sizes_at, nearLists, ListDone, Tried, SizesTo, Done, Passed, too_long, too_far, resolved, clear_lists, Answered, zero_byte, refused, passed}
 
 pub measures_length : (B : ℕ → ℕ) (is : List Item) → length (measures B is) ≡ length (actions is)
 unfolding measures
@@ -150,7 +153,7 @@ module _ {F w : List ℕ} (t : Stands F w) {n j from : ℕ} (m : n ≡ count_of 
     this : (s : Sized F w) → Tried s j offsets offsets' r
     this s = tried s j below v.from_is refl (v.done s).sized
 
-    pub pass_long : r.short ≡ false → (sizes' offsets'' : List ℕ) (s : Sized F w) → Passed s sizes' offsets'' 10
+    pub pass_long : r.short ≡ false → (sizes' offsets'' : List ℕ) (s : Sized F w) → Passed s sizes' offsets'' (Err TooLong)
     pass_long y sizes' offsets'' s = too_long j below ((this s).bad y)
 
     module _ (y : r.short ≡ true) (s : Sized F w) where
@@ -208,10 +211,10 @@ module _ {F w : List ℕ} (t : Stands F w) {n j from : ℕ} (m : n ≡ count_of 
 
 module _ {F w : List ℕ} {n j from : ℕ} (m : n ≡ count_of w) {near : Bool} {sizes offsets starts places : List ℕ}
     (v : PassInv F w n j from near sizes offsets starts places) (z : j ≡ n) where
-  pub pass_near : near ≡ true → (s : Sized F w) → Passed s sizes offsets 0
+  pub pass_near : near ≡ true → (s : Sized F w) → Passed s sizes offsets (Ok tt)
   pass_near y s = resolved (subst (λ (t : Bool). Done s (count_of w) t sizes offsets) y (subst (λ (i : ℕ). Done s i near sizes offsets) (z ∙ m) (v.done s)))
 
-  pub pass_far : near ≡ false → (s : Sized F w) → Passed s sizes offsets 11
+  pub pass_far : near ≡ false → (s : Sized F w) → Passed s sizes offsets (Err TooFar)
   pass_far y s = too_far (subst (λ (t : Bool). Done s (count_of w) t sizes offsets) y (subst (λ (i : ℕ). Done s i near sizes offsets) (z ∙ m) (v.done s)))
 
 -- the strings
@@ -243,8 +246,14 @@ module _ {F w : List ℕ} (t : Stands F w) {n j from : ℕ} (m : n ≡ count_of 
 -- the answer
 
 module _ (F w : List ℕ) (n : ℕ) (m : n ≡ count_of w) {clear : Bool} (e : clear ≡ clear_lists F w n) where
-  pub answer_zero : clear ≡ false → (s : Sized F w) (sizes offsets : List ℕ) → Answered s sizes offsets (record { refusal = 9; bytes = 0 })
+  pub answer_zero : clear ≡ false → (s : Sized F w) (sizes offsets : List ℕ) → Answered s sizes offsets (Err ZeroByte)
   answer_zero z s sizes offsets = zero_byte (ap (clear_lists F w) (sym m) ∙ sym e ∙ z)
 
-  pub answer_passed : clear ≡ true → (sizes offsets : List ℕ) (k : ℕ) → ((s : Sized F w) → Passed s sizes offsets k) → (s : Sized F w) → Answered s sizes offsets (record { refusal = k; bytes = get_or sizes 0 0 })
-  answer_passed z sizes offsets k f s = passed (ap (clear_lists F w) (sym m) ∙ sym e ∙ z) (f s)
+  pub answer_refused : clear ≡ true → {sizes offsets : List ℕ} {r : Result (Unit {0}) Refusal} → ((s : Sized F w) → Passed s sizes offsets r) → {x : Refusal} → r ≡ Err x →
+      (a : Result ℕ Refusal) → IsErrAnd a (λ y. y ≡ x) → (s : Sized F w) → Answered s sizes offsets a
+  answer_refused z f u (Ok n) h s = absurd h
+  answer_refused z f u (Err y) h s = refused (ap (clear_lists F w) (sym m) ∙ sym e ∙ z) (rw (u ∙ ap Err (sym h)) at (f s))
+
+  pub answer_passed : clear ≡ true → {sizes offsets : List ℕ} {r : Result (Unit {0}) Refusal} → ((s : Sized F w) → Passed s sizes offsets r) → r ≡ Ok tt →
+      (s : Sized F w) → Answered s sizes offsets (Ok (get_or sizes 0 0))
+  answer_passed z f u s = passed (ap (clear_lists F w) (sym m) ∙ sym e ∙ z) (rw u at (f s))

@@ -15,14 +15,8 @@ ghost use Rattle.resolver.specs.Passes.{Stands, Sized, Passed, Answered};
 ghost use Rattle.resolver.specs.Resolved.{Resolves};
 
 use crate::passes::{clear_lists, measure_lists};
+use refusal::Refusal;
 use script_records::layout::Layout;
-
-// The refusal's number, 0 if there is none, and then the bytes of the top list's body.
-#[derive(Clone, Copy)]
-pub struct Answer {
-    pub refusal: u32,
-    pub bytes: u32,
-}
 
 // How many lists there are: the last end that is not 0 is the top list's.
 pub fn count_lists(list: &[u32]) -> usize
@@ -47,7 +41,7 @@ fn measure(
     n: usize,
     sizes: &mut [u32; 1024],
     offsets: &mut [u32; 4096],
-) -> u32
+) -> Result<(), Refusal>
     requires ready { Ready file.now l }
     requires stands { Stands file.now list.now }
     requires n_value { n ≡ count_of list.now }
@@ -67,7 +61,7 @@ fn refuse_or_fill(
     list: &[u32],
     sizes: &mut [u32; 1024],
     offsets: &mut [u32; 4096],
-) -> Answer
+) -> Result<u32, Refusal>
     requires ready { Ready file.now l }
     requires stands { Stands file.now list.now }
     requires sizes_len { length sizes.old ≡ 1024 }
@@ -76,24 +70,20 @@ fn refuse_or_fill(
 {
     let n = count_lists(list);
     if !clear_lists(file, l, list, n) {
-        return Answer {
-            refusal: 9,
-            bytes: 0,
-        };
+        return Err(Refusal::ZeroByte);
     }
-    let refusal = measure(file, l, list, n, sizes, offsets);
-    let bytes = sizes[0];
-    Answer { refusal, bytes }
+    measure(file, l, list, n, sizes, offsets)?;
+    Ok(sizes[0])
 }
 
-// The bytes of each body, by list number, and the offset of each branch, by its entry; or the first of the refusals 9, 10 and 11.
+// The bytes of each body, by list number, and the offset of each branch, by its entry; and the bytes of the top list's body.
 pub fn resolve(
     file: &[u8],
     l: Layout,
     list: &[u32],
     sizes: &mut [u32; 1024],
     offsets: &mut [u32; 4096],
-) -> Answer
+) -> Result<u32, Refusal>
     requires lowered { Lowered file.now list.now }
     requires l_value { l ≡ layout_of file.now }
     requires sizes_len { length sizes.old ≡ 1024 }

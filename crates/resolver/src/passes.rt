@@ -7,6 +7,7 @@ ghost use Rattle.resolver.specs.Passes.{number_at, Stands, Sized, SizesTo, Tried
 
 use crate::branches::resolve_list;
 use crate::walk::{clear_list, mark_list, walk_list};
+use refusal::Refusal;
 use script_records::layout::Layout;
 
 // One list: its body's bytes, whether its records are short, and whether its branches reach.
@@ -89,7 +90,7 @@ fn measure_list(
     }
 }
 
-// Refusal 10 or 11, or 0 with the tables filled.
+// Fills the tables, or refuses a record or a body for its bytes, or a branch for its distance.
 pub fn measure_lists(
     file: &[u8],
     l: Layout,
@@ -99,7 +100,7 @@ pub fn measure_lists(
     offsets: &mut [u32; 4096],
     starts: &mut [u32; 4097],
     places: &mut [u32; 1024],
-) -> u32
+) -> Result<(), Refusal>
     requires ready { Ready file.now l }
     requires stands { Stands file.now list.now }
     requires n_value { n ≡ count_of list.now }
@@ -117,7 +118,7 @@ pub fn measure_lists(
         let end = list[at] as usize;
         let step = measure_list(file, l, list, from, end, sizes, offsets, starts, places);
         if !step.short {
-            return 10;
+            return Err(Refusal::TooLong);
         }
         let number = number_at(n, j);
         sizes[number] = step.bytes;
@@ -125,5 +126,8 @@ pub fn measure_lists(
         from = end;
         j += 1;
     }
-    if near { 0 } else { 11 }
+    if !near {
+        return Err(Refusal::TooFar);
+    }
+    Ok(())
 }

@@ -1,61 +1,69 @@
 -- `record_of` meets its contract.
-use mathlib.Core.Path.{◌∙◌}
+use mathlib.Core.Path.{sym, ◌∙◌}
 use mir.Syntax.{w32}
 use mir.ValLaws.{to_z-of_z}
 use Rattle.script_records.specs.Layout.{words_of}
+use Rattle.script_records.specs.declared.kind.Kind.TheVariants as kind
 use Rattle.decode.specs.Decode.{record_of}
-use Rattle.decode.proofs.DecodeLaws.{record_rest, record_loop, record_constant}
+use Rattle.decode.proofs.DecodeLaws.{kind_is, kind_is_not, record_plain, record_unknown}
 use Rattle.decode.proofs.record_of.Goals as goal
 
-pub returns-in-0 : goal.returns-in-0
+pub returns-in-Declare : goal.returns-in-Declare
 unfolding record_of
-returns-in-0 c = rw c.in-0.is
+returns-in-Declare c = rw (kind_is c.try_from.ensures c.in-Ok.is c.in-Declare.is)
 
-pub returns-in-5 : goal.returns-in-5
-returns-in-5 c = record_loop (words_of c.args.r) c.in-5.is c.condition.ensures
-
-pub returns-in-32 : goal.returns-in-32
-returns-in-32 c = record_constant (words_of c.args.r) c.in-32.is c.constant.ensures
-
-pub returns-in-40 : goal.returns-in-40
+pub returns-in-ForIn : goal.returns-in-ForIn
 unfolding record_of
-returns-in-40 c = rw (c.in-40.is, c.binary_operator.ensures)
+returns-in-ForIn c = rw (c.condition.ensures, kind_is c.try_from.ensures c.in-Ok.is c.in-ForIn.is)
 
-pub returns-in-41 : goal.returns-in-41
+pub returns-in-Constant : goal.returns-in-Constant
 unfolding record_of
-returns-in-41 c = rw (c.in-41.is, c.unary_operator.ensures)
+returns-in-Constant c = rw (c.constant.ensures, kind_is c.try_from.ensures c.in-Ok.is c.in-Constant.is)
 
-pub returns-in-49 : goal.returns-in-49
+pub returns-in-Binary : goal.returns-in-Binary
 unfolding record_of
-returns-in-49 c = rw c.in-49.is
+returns-in-Binary c = rw (c.binary_operator.ensures, kind_is c.try_from.ensures c.in-Ok.is c.in-Binary.is)
 
-pub returns-in-52 : goal.returns-in-52
+pub returns-in-Unary : goal.returns-in-Unary
 unfolding record_of
-returns-in-52 c = rw c.in-52.is
+returns-in-Unary c = rw (c.unary_operator.ensures, kind_is c.try_from.ensures c.in-Ok.is c.in-Unary.is)
 
-pub returns-in-69 : goal.returns-in-69
+pub returns-in-Function : goal.returns-in-Function
 unfolding record_of
-returns-in-69 c = rw c.in-69.is
+returns-in-Function c = rw (kind_is c.try_from.ensures c.in-Ok.is c.in-Function.is)
 
-pub returns-in-75 : goal.returns-in-75
+pub returns-in-GotoFrame : goal.returns-in-GotoFrame
 unfolding record_of
-returns-in-75 c = rw (to_z-of_z w32 _ (record { sfits = c.to_signed.type_inv }), c.to_signed.ensures, c.in-75.is)
+returns-in-GotoFrame c = rw (kind_is c.try_from.ensures c.in-Ok.is c.in-GotoFrame.is)
 
-pub returns-in-76 : goal.returns-in-76
+pub returns-in-StartDrag : goal.returns-in-StartDrag
 unfolding record_of
-returns-in-76 c = rw (to_z-of_z w32 _ (record { sfits = c.to_signed-in-76.type_inv }), c.to_signed-in-76.ensures, c.in-76.is)
+returns-in-StartDrag c = rw (kind_is c.try_from.ensures c.in-Ok.is c.in-StartDrag.is)
 
-pub returns-in-97 : goal.returns-in-97
+pub returns-in-GetProperty : goal.returns-in-GetProperty
 unfolding record_of
-returns-in-97 c = rw c.in-97.is
+returns-in-GetProperty c = rw (to_z-of_z w32 _ (record { sfits = c.to_signed.type_inv }), c.to_signed.ensures, kind_is c.try_from.ensures c.in-Ok.is c.in-GetProperty.is)
 
-pub returns-in-98 : goal.returns-in-98
+pub returns-in-SetProperty : goal.returns-in-SetProperty
 unfolding record_of
-returns-in-98 c = rw c.in-98.is
+returns-in-SetProperty c = rw (to_z-of_z w32 _ (record { sfits = c.to_signed-in-SetProperty.type_inv }), c.to_signed-in-SetProperty.ensures, kind_is c.try_from.ensures c.in-Ok.is c.in-SetProperty.is)
 
-pub returns-in-99 : goal.returns-in-99
+pub returns-in-List : goal.returns-in-List
 unfolding record_of
-returns-in-99 c = rw c.in-99.is
+returns-in-List c = rw (kind_is c.try_from.ensures c.in-Ok.is c.in-List.is)
+
+pub returns-in-ObjectField : goal.returns-in-ObjectField
+unfolding record_of
+returns-in-ObjectField c = rw (kind_is c.try_from.ensures c.in-Ok.is c.in-ObjectField.is)
+
+pub returns-in-Parameter : goal.returns-in-Parameter
+unfolding record_of
+returns-in-Parameter c = rw (kind_is c.try_from.ensures c.in-Ok.is c.in-Parameter.is)
+
+pub returns-in_default-kind : goal.returns-in_default-kind
+returns-in_default-kind c =
+    let n = c.in_default-kind in
+    c.plain.ensures ∙ record_plain (words_of c.args.r) (kind_is_not kind.Declare c.try_from.ensures c.in-Ok.is n.not-Declare) (kind_is_not kind.ForIn c.try_from.ensures c.in-Ok.is n.not-ForIn) (kind_is_not kind.Constant c.try_from.ensures c.in-Ok.is n.not-Constant) (kind_is_not kind.Binary c.try_from.ensures c.in-Ok.is n.not-Binary) (kind_is_not kind.Unary c.try_from.ensures c.in-Ok.is n.not-Unary) (kind_is_not kind.Function c.try_from.ensures c.in-Ok.is n.not-Function) (kind_is_not kind.GotoFrame c.try_from.ensures c.in-Ok.is n.not-GotoFrame) (kind_is_not kind.StartDrag c.try_from.ensures c.in-Ok.is n.not-StartDrag) (kind_is_not kind.GetProperty c.try_from.ensures c.in-Ok.is n.not-GetProperty) (kind_is_not kind.SetProperty c.try_from.ensures c.in-Ok.is n.not-SetProperty) (kind_is_not kind.List c.try_from.ensures c.in-Ok.is n.not-List) (kind_is_not kind.ObjectField c.try_from.ensures c.in-Ok.is n.not-ObjectField) (kind_is_not kind.Parameter c.try_from.ensures c.in-Ok.is n.not-Parameter)
 
 pub returns-in_default : goal.returns-in_default
-returns-in_default c = c.plain.ensures ∙ record_rest (words_of c.args.r) c.in_default.in_default-own.rest
+returns-in_default c = record_unknown (words_of c.args.r) (sym c.try_from.ensures ∙ c.in_default.is)

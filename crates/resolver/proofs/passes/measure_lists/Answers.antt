@@ -51,8 +51,8 @@ loop-j-smaller c = omega (arith, c.loop-j.invariant.le, c.loop-j-test.true)
 pub loop-j-preserved : goal.loop-j-preserved
 loop-j-preserved c = pass_again c.requires.stands c.requires.n_value c.loop-j.invariant c.loop-j-test.true c.measure_list-step.ensures.tried (not-false _ c.if-not-step.false) c.measure_list-step.ensures.offsets_len_2 c.number_at-number.ensures refl c.measure_list-step.ensures.starts_len_2 c.measure_list-step.ensures.places_len_2
 
-pub returns-then-near : goal.returns-then-near
-returns-then-near c = pass_near c.requires.n_value c.loop-j.invariant c.loop-j-test.false c.if-near.true
+pub returns : goal.returns
+returns c = pass_near c.requires.n_value c.loop-j.invariant c.loop-j-test.false c.if-not-near.false
 
-pub returns-else-near : goal.returns-else-near
-returns-else-near c = pass_far c.requires.n_value c.loop-j.invariant c.loop-j-test.false c.if-near.false
+pub returns-then-not-near : goal.returns-then-not-near
+returns-then-not-near c = pass_far c.requires.n_value c.loop-j.invariant c.loop-j-test.false c.if-not-near.true

@@ -6,7 +6,7 @@ use Rattle.script.proofs.RuleLaws.{Deep}
 use Rattle.script.proofs.rules.too_deep.Given as goal
 
 abbrev pub invariant-loop-i : goal.invariant-loop-i
-invariant-loop-i l = Deep (rows_of l.file l.l) (depth (tree_in l.file l.l)) l.starts l.ancestors l.i
+invariant-loop-i l = Deep (rows_of l.script.bytes.now l.script.layout) (depth (tree_in l.script.bytes.now l.script.layout)) l.starts l.ancestors l.i
 
 abbrev pub decreases-loop-i : goal.decreases-loop-i
 decreases-loop-i l = l.i * 2 + l.ancestors
