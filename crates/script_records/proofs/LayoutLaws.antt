@@ -1,24 +1,34 @@
 -- The areas of a script file: what each function of `layout` gives, way by way.
-use Prim.Native.Nat.{ℕ, zero, suc, ◌+◌, ◌-◌, ◌*◌, ◌≤◌, ◌<◌}
+use Prim.Native.Nat.{ℕ, zero, suc, ◌+◌, ◌-◌, ◌*◌, ◌≤◌, ◌<◌, min, max}
 use mathlib.Core.Path.{◌≡◌, refl, sym, ap}
-use mathlib.Core.List.{List, []}
+use mathlib.Core.List.{List, [], ◌∷◌}
 use native.Mathlib.Omega.{arith}
 use native.Mathlib.Numerals.{sub-one}
-use mathlib.Core.Bool.{Bool, true, false, ◌&&◌}
-use lib.Dec.{leb}
-use borrow.Author.Tests.{eq-eqb, ne_eqb, le-leb, lt-leb}
-use lib.ListN.{length, take, drop, length-drop, get_or-eq_default, drop_of_length-le}
-use lib.Seq.{take_all, take-nil}
+use mathlib.Core.Bool.{true, false}
+use borrow.Author.Tests.{ne_eqb, le-leb, lt-leb}
+use lib.ListN.{length, take, drop, length-drop, get_or-eq_default}
+use Rattle.std.proofs.lemmas.List.{take_min, drop_min}
+use Rattle.std.specs.Int.{w32, from_le_bytes}
 use Rattle.script_records.specs.declared.layout.Layout.{Layout}
 use Rattle.script_records.specs.declared.layout.Row.{Row}
-use Rattle.script_records.specs.Layout.{word_at, has_trailer, areas_touch, supported, layout_of, end_at, start_at, string_at, row_at, rows_from, rows_of, row_in, no_row}
+use Rattle.script_records.specs.Layout.{word_at, supported, layout_of, end_at, start_at, string_at, row_at, rows_from, rows_of, row_in, no_row}
 
-module _ (F : List ℕ) (h : 20 ≤ length F) where
-  pub layout_some : {r e n m w0 w1 : ℕ} → w0 ≡ word_at F (length F - 20) → r ≡ length F - 20 - w0 → w1 ≡ word_at F (length F - 20 + 4) → e ≡ length F - 20 - w1
-      → n ≡ word_at F (length F - 20 + 8) → m ≡ word_at F (length F - 20 + 12)
-      → ◌≡◌ {A = Layout} (record { records = r; ends = e; count = n; strings = m }) (layout_of F)
-  unfolding layout_of
-  layout_some q0 q1 q2 q3 q4 q5 = rw (le-leb 20 (length F) h) (cc)
+pub four_bytes : (a b c d : ℕ) → from_le_bytes w32 (a ∷ b ∷ c ∷ d ∷ []) ≡ a + 256 * (b + 256 * (c + 256 * d))
+four_bytes a b c d = omega arith
+
+-- what `default` gives
+row_of_zeros : {k a b c n : ℕ} → k ≡ 0 → a ≡ 0 → b ≡ 0 → c ≡ 0 → n ≡ 0 → ◌≡◌ {A = Row} (record { kind = k; a = a; b = b; c = c; size = n }) no_row
+row_of_zeros p q r s t = cc
+
+pub default_row : (r : Row) → (r.kind ≡ 0) × ((r.a ≡ 0) × ((r.b ≡ 0) × ((r.c ≡ 0) × (r.size ≡ 0)))) → r ≡ no_row
+default_row r h = row_of_zeros h.0 h.1.0 h.1.1.0 h.1.1.1.0 h.1.1.1.1
+
+layout_of_zeros : {r e n m : ℕ} → r ≡ 0 → e ≡ 0 → n ≡ 0 → m ≡ 0 → ◌≡◌ {A = Layout} (record { records = r; ends = e; count = n; strings = m }) (record { records = 0; ends = 0; count = 0; strings = 0 })
+layout_of_zeros p q r s = cc
+
+pub default_layout : (F : List ℕ) (l : Layout) → length F < 20 → (l.records ≡ 0) × ((l.ends ≡ 0) × ((l.count ≡ 0) × (l.strings ≡ 0))) → l ≡ layout_of F
+unfolding layout_of
+default_layout F l short h = rw (lt-leb 20 (length F) short) (layout_of_zeros h.0 h.1.0 h.1.1.0 h.1.1.1)
 
 pub rows_length : (F : List ℕ) (p n : ℕ) → length (rows_from F p n) ≡ n
 unfolding rows_from
@@ -46,6 +56,12 @@ module _ (F : List ℕ) (l : Layout) (i : ℕ) (inside : i < l.count) where
   unfolding rows_of row_at
   row_whole h q0 q1 q2 q3 q4 = rw (rows_at F l.records l.count i, le-leb (l.records + 20 * i + 20) (length F) h) (cc)
 
+-- a part from s to e, where each lies in the list or past its end
+kept_part : (F : List ℕ) (s e : ℕ) → take (max (min s (length F)) (min e (length F)) - min s (length F)) (drop (min s (length F)) F) ≡ take (e - s) (drop s F)
+kept_part F s e =
+    let count : max (min s (length F)) (min e (length F)) - min s (length F) ≡ min (e - s) (length (drop s F)) = rw length-drop (omega arith) in
+    rw (drop_min, count, take_min)
+
 module _ (F : List ℕ) (l : Layout) (i : ℕ) where
   pub end_short : length F < l.ends + 4 * i + 4 → 0 ≡ end_at F l i
   unfolding end_at
@@ -65,41 +81,11 @@ module _ (F : List ℕ) (l : Layout) (i : ℕ) where
       go zero h q = absurd (h refl)
       go (suc j) h q = rw (sub-one) at q
 
-  -- a part of the file, by what is known of its start and its end
-  pub string_start : {s e : ℕ} → s ≡ start_at F l i → e ≡ end_at F l i → length F ≤ s → [] ≡ string_at F l i
+  -- a part of the file, where the start and the end are kept inside it
+  pub string_part : {s e : ℕ} → s ≡ start_at F l i → e ≡ end_at F l i →
+      take (max (min s (length F)) (min e (length F)) - min s (length F)) (drop (min s (length F)) F) ≡ string_at F l i
   unfolding string_at
-  string_start {s} {e} p q h = rw (← p, ← q, drop_of_length-le F h, take-nil (e - s))
-
-  pub string_empty : {s e : ℕ} → s ≡ start_at F l i → e ≡ end_at F l i → e ≤ s → [] ≡ string_at F l i
-  unfolding string_at
-  string_empty {s} {e} p q h = let z : e - s ≡ 0 = omega arith in rw (← p, ← q, z)
-
-  pub string_tail : {s e : ℕ} → s ≡ start_at F l i → e ≡ end_at F l i → length F ≤ e → take (length F - s) (drop s F) ≡ string_at F l i
-  unfolding string_at
-  string_tail {s} {e} p q h =
-      rw (← p, ← q, take_all (e - s) (drop s F) (rw length-drop (omega arith)), take_all (length F - s) (drop s F) (rw length-drop (omega arith)))
-
-  pub string_part : {s e : ℕ} → s ≡ start_at F l i → e ≡ end_at F l i → take (e - s) (drop s F) ≡ string_at F l i
-  unfolding string_at
-  string_part p q = rw (← p, ← q)
-
--- the trailer's words, in a file that has a trailer
-abbrev pub areas : List ℕ → Bool
-areas F = has_trailer F && areas_touch F
-
-module _ (F : List ℕ) (long : 20 ≤ length F) {e : ℕ} (edition' : e ≡ word_at F (length F - 20 + 16)) where
-  pub areas_edition : (e ≡ 1 → ⊥) → false ≡ areas F
-  areas_edition h = rw (le-leb 20 (length F) long, ← edition', ne_eqb e 1 h)
-
-  module _ (one : e ≡ 1) {r d n m : ℕ} (records : r ≡ word_at F (length F - 20)) (ends : d ≡ word_at F (length F - 20 + 4)) (count : n ≡ word_at F (length F - 20 + 8)) (strings : m ≡ word_at F (length F - 20 + 12)) where
-    pub areas_records : (r ≡ 20 * n → ⊥) → false ≡ areas F
-    areas_records h = rw (le-leb 20 (length F) long, ← edition', eq-eqb e 1 one, ← records, ← count, ne_eqb r (20 * n) h)
-
-    pub areas_ends : r ≡ 20 * n → (d ≡ 20 * n + 4 * m → ⊥) → false ≡ areas F
-    areas_ends h k = rw (le-leb 20 (length F) long, ← edition', eq-eqb e 1 one, ← records, ← ends, ← count, ← strings, eq-eqb r (20 * n) h, ne_eqb d (20 * n + 4 * m) k)
-
-    pub areas_all : r ≡ 20 * n → d ≡ 20 * n + 4 * m → leb d (length F - 20) ≡ areas F
-    areas_all h k = rw (le-leb 20 (length F) long, ← edition', eq-eqb e 1 one, ← records, ← ends, ← count, ← strings, eq-eqb r (20 * n) h, eq-eqb d (20 * n + 4 * m) k)
+  string_part {s} {e} p q = rw (← p, ← q) (kept_part F s e)
 
 -- the kinds that refusal 3 names
 module _ (k : ℕ) where

@@ -67,12 +67,12 @@ module _ (rs : List Row) (p : Part) {t : Tree} (e : t ≡ last_tree rs p) where
 pub trees_none : (rs : List Row) (p : Part) → p.n ≡ 0 → trees_in rs p ≡ none
 trees_none rs p h = rw h (forest_none rs p.end)
 
-pub tree_made : (rs : List Row) (p : Part) {row : Row} {at s inner end n : ℕ} → at ≡ p.end - 1 → row ≡ row_in rs at → s ≡ min p.n (max 1 row.size) → inner ≡ s - 1
-    → end ≡ p.end - s → n ≡ p.n - s → ◌≡◌ {A = Tree} (record { row = row; children = record { end = at; n = inner }; before = record { end = end; n = n } }) (last_tree rs p)
+pub tree_made : (rs : List Row) (p : Part) {row : Row} {at s : ℕ} → at ≡ p.end - 1 → row ≡ row_in rs at → s ≡ min (max row.size 1) p.n →
+    ◌≡◌ {A = Tree} (record { row = row; children = record { end = at; n = s - 1 }; before = record { end = p.end - s; n = p.n - s } }) (last_tree rs p)
 unfolding last_tree span_at
-tree_made rs p a b c d e f = cc
+tree_made rs p {row} {at} {s} a b c = let e : s ≡ min p.n (max 1 row.size) = omega arith in cc
 
 -- a tree as large as its record says
 pub tree_sized : (rs : List Row) (p : Part) (s : ℕ) {row : Row} {at : ℕ} {t : Tree} → at ≡ p.end - 1 → row ≡ row_in rs at → row.size ≡ s → 1 ≤ s → s ≤ p.n →
     t ≡ record { row = row; children = record { end = at; n = s - 1 }; before = record { end = p.end - s; n = p.n - s } } → t ≡ last_tree rs p
-tree_sized rs p s a b size some room e = e ∙ tree_made rs p {s = s} a b (omega arith) refl refl refl
+tree_sized rs p s a b size some room e = e ∙ tree_made rs p {s = s} a b (omega arith)

@@ -20,38 +20,19 @@ pub struct Tree {
     pub before: Part,
 }
 
-// The difference, and 0 where there is none.
-pub fn minus(a: usize, b: usize) -> usize
-    ensures { result ≡ a - b }
-{
-    if b <= a { a - b } else { 0 }
-}
-
-// How many records the last subtree has: its size, but at least 1 and at most n.
-fn span(size: u32, n: usize) -> usize
-    ensures { result ≡ min n (max 1 size) }
-{
-    let s = size as usize;
-    if n <= s {
-        return n;
-    }
-    if s != 0 {
-        return s;
-    }
-    if n == 0 { 0 } else { 1 }
-}
-
 // The last subtree, if it has so many records.
 fn sized(row: Row, p: Part, at: usize, s: usize) -> Tree
     requires le_s { 1 ≤ s }
     requires s_le_n { s ≤ p.n }
     ensures { result ≡ record { row = row; children = record { end = at; n = s - 1 }; before = record { end = p.end - s; n = p.n - s } } }
 {
-    let end = minus(p.end, s);
     Tree {
         row,
         children: Part { end: at, n: s - 1 },
-        before: Part { end, n: p.n - s },
+        before: Part {
+            end: p.end.saturating_sub(s),
+            n: p.n - s,
+        },
     }
 }
 
@@ -59,7 +40,7 @@ impl ScriptFile<'_> {
     pub fn last_tree(&self, p: Part) -> Tree
         ensures { result ≡ last_tree (rows_of self.now.bytes.now self.now.layout) p }
     {
-        let at = minus(p.end, 1);
+        let at = p.end.saturating_sub(1);
         let row = self.row_at(at);
         // Most trees have one to three records: a branch lets the processor go on before the size is read.
         if row.size == 1 {
@@ -77,14 +58,17 @@ impl ScriptFile<'_> {
                 return sized(row, p, at, 3);
             }
         }
-        let s = span(row.size, p.n);
-        let inner = minus(s, 1);
-        let end = minus(p.end, s);
-        let n = minus(p.n, s);
+        let s = (row.size as usize).max(1).min(p.n);
         Tree {
             row,
-            children: Part { end: at, n: inner },
-            before: Part { end, n },
+            children: Part {
+                end: at,
+                n: s.saturating_sub(1),
+            },
+            before: Part {
+                end: p.end.saturating_sub(s),
+                n: p.n - s,
+            },
         }
     }
 }
@@ -92,9 +76,9 @@ impl ScriptFile<'_> {
 pub fn last_tree(file: &[u8], l: Layout, p: Part) -> Tree
     ensures { result ≡ last_tree (rows_of file.now l) p }
 {
-    let script = ScriptFile {
+    ScriptFile {
         bytes: file,
         layout: l,
-    };
-    script.last_tree(p)
+    }
+    .last_tree(p)
 }

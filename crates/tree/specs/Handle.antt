@@ -1,12 +1,12 @@
 -- What the handle of trees in a row stands for.
-use Rattle.std.specs.Prelude.{ℕ, List}
+use Rattle.std.specs.Prelude.{ℕ, ◌<◌, ◌≡◌, List, Option, MatchOption}
 use Rattle.hir.specs.Hir.{Rec}
 use Rattle.hir.specs.Tree.{Forest}
 use Rattle.script_records.specs.declared.part.Part.{Part}
 use Rattle.lowering.specs.Meaning.{Meaning}
 use Rattle.tree.specs.declared.Node.{Node}
 use Rattle.tree.specs.declared.Trees.{Trees}
-use Rattle.tree.specs.Trees.{trees}
+use Rattle.tree.specs.Trees.{trees, node_of}
 use Rattle.tree.specs.Within.{meanings_at, kid_at, list_at}
 
 -- the file, and the trees with their strings resolved
@@ -29,3 +29,12 @@ kid_of t n = kid_at (file_of t) t.part n
 
 abbrev pub list_of : Trees → ℕ → Forest Meaning
 list_of t n = list_at (file_of t) t.part n
+
+-- the trees before the last
+pub record IsRest (t rest : Trees) : Type 0 where
+  pub script : rest.script ≡ t.script
+  pub part : rest.part ≡ (node_of (file_of t) t.script.layout t.part).before
+
+-- going through them from the last to the first: each is given as the trees up to it
+abbrev pub GivesLast : Trees → Option Trees → Trees → Type 0
+GivesLast s r t = MatchOption r ((s.part.n ≡ 0) × (t ≡ s)) (λ x. (x ≡ s) × (0 < s.part.n) × IsRest s t)

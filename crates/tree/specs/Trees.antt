@@ -1,5 +1,5 @@
 -- The trees of a part of the records, with their strings resolved, and what the walk asks of them.
-use Rattle.std.specs.Prelude.{ℕ, zero, suc, ◌+◌, List, cond, eqb}
+use Rattle.std.specs.Prelude.{ℕ, suc, ◌+◌, List, Option, None, Some, option_map, cond, eqb}
 use Rattle.hir.specs.Hir.{Rec}
 use Rattle.hir.specs.Tree.{Forest, more, map_forest}
 use Rattle.hir.specs.declared.Record.{Record}
@@ -80,18 +80,13 @@ unfoldable pub cases : Forest Rec → ℕ
 cases Forest.none = 0
 cases (more before r kids) = cases before + is_case (meaning.element r)
 
--- one more, if there is a Default
-abbrev pub after_default : ℕ → ℕ
-after_default zero = zero
-after_default (suc n) = suc (suc n)
+abbrev pub from_default_at : meaning.Element → Option ℕ → Option ℕ
+from_default_at meaning.case o = option_map suc o
+from_default_at meaning.default o = Some 1
+from_default_at meaning.statement o = o
 
-abbrev pub from_default_at : meaning.Element → ℕ → ℕ
-from_default_at meaning.case n = after_default n
-from_default_at meaning.default n = 1
-from_default_at meaning.statement n = n
-
-unfoldable pub from_default_of : Forest Rec → ℕ
-from_default_of Forest.none = 0
+unfoldable pub from_default_of : Forest Rec → Option ℕ
+from_default_of Forest.none = None
 from_default_of (more before r kids) = from_default_at (meaning.element r) (from_default_of before)
 
 abbrev pub counts_of : Forest Rec → Counts

@@ -9,6 +9,7 @@ ghost use Rattle.tree.specs.Within.{Within, IsKid, IsList};
 
 use decode::record_of;
 use hir::Record;
+use script_records::kind::Kind;
 use script_records::layout::{Layout, Row, ScriptFile};
 use script_records::part::{Part, last_tree};
 
@@ -62,33 +63,32 @@ pub enum Element {
     Statement,
 }
 
-pub fn element_of(root: Record) -> Element
-    ensures { result ≡ element_of root }
-{
-    match root {
-        Record::Case => Element::Case,
-        Record::Default => Element::Default,
-        Record::Statement(_) => Element::Statement,
-        Record::Expr(_) => Element::Statement,
-        Record::Absent => Element::Statement,
-        Record::List(_) => Element::Statement,
-        Record::ObjectField(_) => Element::Statement,
-        Record::Parameter {
-            name: _,
-            register: _,
-        } => Element::Statement,
-        Record::Other => Element::Statement,
+impl From<Record> for Element {
+    ghost from_gives = { λ root e. e ≡ element_of root };
+
+    fn from(root: Record) -> Self {
+        match root {
+            Record::Case => Element::Case,
+            Record::Default => Element::Default,
+            _ => Element::Statement,
+        }
     }
 }
 
+pub fn element_of(root: Record) -> Element
+    ensures { result ≡ element_of root }
+{
+    Element::from(root)
+}
+
 // Of the trees in a row: how many there are, how many of them are Case or Default, how many Case, and how many of the labelled ones stand from the
-// last Default on (0 if there is no Default).
-#[derive(Clone, Copy)]
+// last Default on.
+#[derive(Clone, Copy, Default)]
 pub struct Counts {
     pub trees: u32,
     pub labels: u32,
     pub cases: u32,
-    pub from_default: u32,
+    pub from_default: Option<u32>,
 }
 
 // One tree more, before those that were counted.
@@ -97,39 +97,28 @@ fn with_tree(element: Element, after: Counts) -> Counts
     ensures { result ≡ with_tree element after }
 {
     let trees = after.trees + 1;
-    let labels = after.labels;
-    let cases = after.cases;
-    let from_default = after.from_default;
+    let labels = after.labels + 1;
     match element {
         Element::Case => Counts {
             trees,
-            labels: labels + 1,
-            cases: cases + 1,
-            from_default,
+            labels,
+            cases: after.cases + 1,
+            ..after
         },
         Element::Default => Counts {
             trees,
-            labels: labels + 1,
-            cases,
-            from_default: if from_default == 0 {
-                labels + 1
-            } else {
-                from_default
-            },
-        },
-        Element::Statement => Counts {
-            trees,
             labels,
-            cases,
-            from_default,
+            from_default: after.from_default.or(Some(labels)),
+            ..after
         },
+        Element::Statement => Counts { trees, ..after },
     }
 }
 
 impl<'a> Trees<'a> {
     ghost use Rattle.std.specs.Prelude.{◌≡◌, ◌-◌, ◌<◌, eqb};
     ghost use Rattle.script_records.specs.Layout.{rows_of, row_in};
-    ghost use Rattle.tree.specs.Handle.{file_of, parts_of, trees_of};
+    ghost use Rattle.tree.specs.Handle.{file_of, parts_of, trees_of, IsRest};
 
     pub fn is_empty(&self) -> bool
         ensures { result ≡ eqb self.now.part.n 0 }
@@ -148,8 +137,7 @@ impl<'a> Trees<'a> {
     // The trees before the last, which has so many records.
     fn without(&self, size: usize) -> Trees<'a>
         requires { (0 < self.now.part.n) × (size ≡ (row_in (rows_of (file_of self.now) self.now.script.layout) (self.now.part.end - 1)).size) }
-        ensures script { result.script ≡ self.now.script }
-        ensures part { result.part ≡ (node_of (file_of self.now) self.now.script.layout self.now.part).before }
+        ensures { IsRest self.now result }
     {
         Trees {
             script: self.script,
@@ -162,8 +150,7 @@ impl<'a> Trees<'a> {
 
     // The trees before the last. For sizes of one to three a branch lets the processor go on before the size is read.
     pub fn rest(&self) -> Trees<'a>
-        ensures script { result.script ≡ self.now.script }
-        ensures part { result.part ≡ (node_of (file_of self.now) self.now.script.layout self.now.part).before }
+        ensures { IsRest self.now result }
     {
         if self.is_empty() {
             return *self;
@@ -219,7 +206,7 @@ impl<'a> Trees<'a> {
         ensures { result ≡ kind_at (file_of self.now) self.now.script.layout self.now.part }
     {
         if self.is_empty() {
-            return 96;
+            return Kind::Absent as u32;
         }
         self.row().kind
     }
@@ -228,25 +215,18 @@ impl<'a> Trees<'a> {
     pub fn element(&self) -> Element
         ensures { result ≡ element_of (node_of (file_of self.now) self.now.script.layout self.now.part).root }
     {
-        if self.kind() < 100 {
+        if self.kind() < Kind::Case as u32 {
             return Element::Statement;
         }
-        element_of(self.node().root)
+        Element::from(self.node().root)
     }
 
     pub fn counts(&self) -> Counts
         ensures { result ≡ counts_of (trees_of self.now) }
     {
-        let mut found = Counts {
-            trees: 0,
-            labels: 0,
-            cases: 0,
-            from_default: 0,
-        };
-        let mut left = *self;
-        while !left.is_empty() {
-            found = with_tree(left.element(), found);
-            left = left.rest();
+        let mut found = Counts::default();
+        for tree in *self {
+            found = with_tree(tree.element(), found);
         }
         found
     }
@@ -256,10 +236,8 @@ impl<'a> Trees<'a> {
         ensures { result ≡ width (trees_of self.now) }
     {
         let mut count = 0;
-        let mut left = *self;
-        while !left.is_empty() {
+        for _ in *self {
             count += 1;
-            left = left.rest();
         }
         count
     }
@@ -282,6 +260,27 @@ impl<'a> Trees<'a> {
         ensures list { IsList (file_of self.now) self.now.script.layout self.now.part n result.part }
     {
         self.kid(n).children()
+    }
+}
+
+// The trees from the last to the first, each as those up to it.
+impl<'a> Iterator for Trees<'a> {
+    ghost use Rattle.std.specs.Iterator.{at_most};
+    ghost use Rattle.tree.specs.Handle.{GivesLast};
+
+    type Item = Trees<'a>;
+
+    ghost next_gives = { GivesLast };
+
+    ghost remaining = { λ s. at_most s.part.n };
+
+    fn next(&mut self) -> Option<Trees<'a>> {
+        if self.is_empty() {
+            return None;
+        }
+        let last = *self;
+        *self = last.rest();
+        Some(last)
     }
 }
 

@@ -1,22 +1,19 @@
 use mathlib.Core.Path.{refl, ◌∙◌}
 use native.Mathlib.Omega.{arith}
-use Rattle.tree.proofs.Nodes.{no_trees, some_trees}
-use Rattle.tree.proofs.Counting.{measured_start, measured_done, measured_few, measured_less, measured_next}
+use Rattle.tree.proofs.Counting.{measured_start, measured_done, measured_few, measured_next}
 use Rattle.tree.proofs.Trees.width.Goals as goal
 
-pub loop-left-init : goal.loop-left-init
-loop-left-init c = (refl, measured_start _ _ _ c.args.self.now.within)
-
-pub loop-left-smaller : goal.loop-left-smaller
-loop-left-smaller c = measured_less c.loop-left.invariant.1 (some_trees c.loop-left-test.ensures) (rw c.loop-left.invariant.0 at c.rest-left.ensures.part)
-
-pub loop-left-preserved : goal.loop-left-preserved
-loop-left-preserved c =
-    let i = c.loop-left.invariant in
-    (c.rest-left.ensures.script ∙ i.0, measured_next i.1 (some_trees c.loop-left-test.ensures) (rw i.0 at c.rest-left.ensures.part))
+pub loop-init : goal.loop-init
+loop-init c = rw c.into_iter-iterator.ensures.into_iter_gives (refl, measured_start _ _ _ c.args.self.now.within)
 
 pub overflow_add-count : goal.overflow_add-count
-overflow_add-count c = omega (arith, measured_few c.loop-left.invariant.1 (some_trees c.loop-left-test.ensures))
+overflow_add-count c = omega (arith, measured_few c.loop.invariant.1 c.in-Some.ensures.steps.1)
+
+pub loop-preserved : goal.loop-preserved
+loop-preserved c =
+    let i = c.loop.invariant in
+    let s = c.in-Some.ensures.steps in
+    (s.2.script ∙ i.0, measured_next i.1 s.1 (rw i.0 at c.loop.iterator'.within) (rw i.0 at s.2.part))
 
 pub returns : goal.returns
-returns c = measured_done c.loop-left.invariant.1 (no_trees c.loop-left-test.ensures)
+returns c = measured_done c.loop.invariant.1 c.in-None.ensures.steps.0

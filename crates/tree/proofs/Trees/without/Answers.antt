@@ -12,5 +12,5 @@ overflow_sub-result-2 c = size_most _ _ _ c.args.self.now.within c.requires.0 c.
 pub invariant_of-result : goal.invariant_of-result
 invariant_of-result c = record { within = rw (rest_is _ _ _ c.args.self.now.within c.requires.0 c.requires.1) (is_node _ _ _ c.args.self.now.within refl).rest_within }
 
-pub returns-clause-part : goal.returns-clause-part
-returns-clause-part c = rest_is _ _ _ c.args.self.now.within c.requires.0 c.requires.1
+pub returns : goal.returns
+returns c = record { script = refl; part = rest_is _ _ _ c.args.self.now.within c.requires.0 c.requires.1 }

@@ -1,4 +1,0 @@
-use Rattle.script_records.proofs.part.sized.Goals as goal
-
-pub returns : goal.returns
-returns c = rw c.minus-end.ensures
