@@ -13,6 +13,7 @@ use Rattle.hir.specs.declared.ExprKind.{ExprKind}
 use Rattle.hir.specs.declared.ExprKind.TheVariants as expr
 use Rattle.hir.specs.declared.Record.{Record}
 use Rattle.hir.specs.declared.Record.TheVariants as kind
+use Rattle.hir.specs.declared.StatementKind.{StatementKind}
 use Rattle.hir.specs.declared.StatementKind.TheVariants as statement
 use Rattle.pcode.specs.Pcode.{moved}
 use Rattle.script_records.specs.declared.layout.Layout.{Layout}
@@ -31,6 +32,9 @@ use Rattle.tree.specs.Within.{Within, IsNode, record_named, kid_at, list_at}
 use Rattle.tree.proofs.Nodes.{is_node, trees_none}
 use Rattle.tree.proofs.ByKind.{either}
 use Rattle.tree.proofs.Meanings.{kid_zero, list_zero}
+use Rattle.operators.specs.declared.shape.Shape as code
+use Rattle.operators.specs.declared.shape.Shape.TheVariants.{NamedFunction}
+use Rattle.operators.specs.Shapes.{shape_in}
 use Rattle.access.proofs.Texts.{text_is, no_text_lem, no_text_named}
 use Rattle.rows.proofs.Passed.{below, none_below, below_end, child_kind}
 
@@ -77,6 +81,25 @@ module _ (F : List ℕ) (l : Layout) (p : Part) {t : Node Part} (w : Within F l 
   by_shape x {k} s q h m v =
       let within = (is_node F l p w e).kids_within in
       sym (rw (q, kid_zero F l t.children (is_node F l t.children within m), ← v) at (inner x h))
+
+-- a shape that is no named function
+pub named_is : (F : List ℕ) (s : code.Shape) → s ≡ NamedFunction → true ≡ is_named (shape_in F s)
+named_is F s e = rw e
+
+pub unnamed_is : (F : List ℕ) (s : code.Shape) → (s ≡ NamedFunction → ⊥) → false ≡ is_named (shape_in F s)
+unnamed_is F NamedFunction h = absurd (h refl)
+unnamed_is F _ h = refl
+
+-- records that are no statement that is an expression
+pub other_statement : (F : List ℕ) (kids : Forest Meaning) (k : StatementKind) → (k ≡ statement.Expr → ⊥) → hoisted (rec_of F (kind.Statement k)) kids ≡ false
+unfolding resolved
+other_statement F kids statement.Expr h = absurd (h refl)
+other_statement F kids _ h = refl
+
+pub no_statement : (F : List ℕ) (kids : Forest Meaning) (r : Record) → ((k : StatementKind) → r ≡ kind.Statement k → ⊥) → hoisted (rec_of F r) kids ≡ false
+unfolding resolved
+no_statement F kids (kind.Statement k) h = absurd (h k refl)
+no_statement F kids _ h = refl
 
 -- a statement that is an expression has the kind 3
 
