@@ -24,7 +24,7 @@ ghost use Rattle.rows.specs.Rows.{label_of, any_hoisted};
 ghost use Rattle.leaves.specs.Args.{Args, Unchanged};
 
 use access::{Access, for_identifier, get_and_set_value, get_value, set_value, small, stop};
-use builder::builder::{action, jump, push, store_register, to_word};
+use builder::builder::{action, jump, push, store_register};
 use codegen_state::CodeBuilder;
 use constants::push_string;
 use decode::constant;
@@ -175,10 +175,10 @@ pub fn negate_integer(list: &mut [u32], b: CodeBuilder, n: i32) -> CodeBuilder
     requires { Fine b list.old }
     ensures { (F : List ℕ) → Does F (statement.negate_integer (unsigned n) (eqb (unsigned n) 0x8000_0000)) b list.old tt result list.new }
 {
-    if n == -2147483648 {
-        return stop(b, 7);
+    match n.checked_neg() {
+        Some(m) => push(list, b, PushValue::Integer(m)),
+        None => stop(b, 7),
     }
-    push(list, b, PushValue::Integer(-n))
 }
 
 // The sign is the highest bit.
@@ -186,38 +186,15 @@ pub fn negate_float(list: &mut [u32], b: CodeBuilder, low: u32, high: u32) -> Co
     requires { Fine b list.old }
     ensures { (F : List ℕ) → Does F (steps.push (Float ((low + 0x1_0000_0000 * high + 0x8000_0000_0000_0000) % 0x1_0000_0000_0000_0000))) b list.old tt result list.new }
 {
-    if high < 0x8000_0000 {
-        return push(list, b, PushValue::Float(low, high + 0x8000_0000));
-    }
-    push(list, b, PushValue::Float(low, high - 0x8000_0000))
+    let flipped = high.wrapping_add(0x8000_0000);
+    push(list, b, PushValue::Float(low, flipped))
 }
 
-// One less, wrapping.
-fn wrapping_less(n: i32) -> i32
-    ensures { unsigned result ≡ (unsigned n + 0xffff_ffff) % 0x1_0000_0000 }
-{
-    if n == -2147483648 {
-        return 2147483647;
-    }
-    n - 1
-}
-
-// A word in two's complement, its low 16 bits.
-fn low_half(n: i32) -> u32
-    ensures { result ≡ unsigned n % 65536 }
-{
-    to_word(n) % 65536
-}
-
-// A GotoFrame's number: 0 stays 0, any other is one less, wrapping, and of that the low 16 bits count.
+// A GotoFrame's number: 0 stays 0, any other is one less, and of that the low 16 bits count.
 pub fn frame_of(n: i32) -> u32
     ensures { result ≡ statement.frame (unsigned n) }
 {
-    if n == 0 {
-        return 0;
-    }
-    let less = wrapping_less(n);
-    low_half(less)
+    n.cast_unsigned().saturating_sub(1) % 65536
 }
 
 pub fn play_if(list: &mut [u32], b: CodeBuilder, play: bool) -> CodeBuilder
@@ -249,12 +226,6 @@ pub fn push_if(list: &mut [u32], b: CodeBuilder, cases: u32) -> CodeBuilder
         return b;
     }
     push(list, b, PushValue::Register(0))
-}
-
-pub fn bit_of(x: bool) -> i32
-    ensures { unsigned result ≡ statement.bit x }
-{
-    i32::from(x)
 }
 
 // An object field's key, a parameter's name; any other record has no name, which the list writes as this reference.
