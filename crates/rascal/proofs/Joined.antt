@@ -8,7 +8,6 @@ use lib.Dec.{leb}
 use lib.ListN.{length, length-append, replicate, length-replicate}
 use borrow.Author.Tests.{le-ltb}
 use Rattle.lowering.specs.Builder.{limits01}
-use Rattle.lowering.specs.Statement as lowering
 use Rattle.list_slice.specs.Words.{zeros_of}
 use Rattle.list_slice.proofs.Areas.{zeros_length}
 use Rattle.zeros.proofs.Clearing.{zeros_zeros}
@@ -21,13 +20,10 @@ use Rattle.action_format.specs.Encode as action_format
 use Rattle.action_format.specs.Encode.{encode, short, unless_refused}
 use Rattle.definition.specs.Outcome.{Outcome, compiled, refused, by_place, output_of}
 use Rattle.definition.specs.Outcome as definition
-use Rattle.definition.proofs.Theorems as theorems
 use Rattle.definition.specs.Compile.{lists_of, lowered_with, written, if_lowered, compile_with}
 use Rattle.definition.specs.Left.{Compiles, LeftList, outcome_lists}
 use Rattle.definition.proofs.Ways.{lowered_by}
-use Rattle.as2_codegen.specs.declared.Lowered as code
-use Rattle.as2_codegen.specs.declared.Lowered.TheVariants as answer
-use Rattle.as2_codegen.specs.Lowering.{answer_of, Lowers}
+use Rattle.as2_codegen.specs.Lowering.{Lowers}
 use Rattle.resolver.specs.Lowered.{Lowered}
 use Rattle.std.specs.Prelude.{Result, Ok, Err, IfOk}
 use Rattle.std.specs.Result.{is_err}
@@ -65,49 +61,22 @@ module _ where
   known l room = by_tests (zero_free l) (short (code l)) (all_near (code l)) (leb (length (action_format.written (code l))) room) (action_format.bytes (action_format.written (code l)))
       (record { filled = λ b e. some_bytes (code_bytes (by_offset (code l))) b e; late = λ k e. let z : ◌≡◌ {A = ℕ} 0 1 = cc in absurd (omega arith) })
 
-module _ (F : List ℕ) (n : ℕ) where
+module _ (F : List ℕ) (n : ℕ) (w : List ℕ) where
   -- lists were made: what the writer asks
-  module _ (w : List ℕ) where
-    made : (x : lowering.Lists) → lowered_with limits01 F n ≡ x → answer.Lists ≡ answer_of x → LeftList limits01 F x w → Lowered F w
-    made (lowering.lists ls) e a h =
-        let y = lowered_by limits01 F n ls e in
-        record { lists = ls; holds = h; from = y.from; accepted = y.accepted }
-    made (lowering.refusal k) e a h = let z : ◌≡◌ {A = ℕ} 0 1 = cc in absurd (omega arith)
+  pub lowered_lists : {u : Unit {0}} → Lowers limits01 F n (Ok u) w → Lowered F w
+  lowered_lists l =
+      let y = lowered_by limits01 F n l.answer.0 l.answer.1 in
+      record { lists = l.answer.0; holds = rw l.answer.1 at l.whole_list; from = y.from; accepted = y.accepted }
 
-    pub lowered_lists : Lowers limits01 F n answer.Lists w → Lowered F w
-    lowered_lists l = made (lowered_with limits01 F n) refl l.answer l.whole_list
+  pub lowered_room : {u : Unit {0}} → Lowers limits01 F n (Ok u) w → 16384 ≤ n
+  lowered_room l = (lowered_by limits01 F n l.answer.0 l.answer.1).in_slice_lem
 
-    roomy : (x : lowering.Lists) → lowered_with limits01 F n ≡ x → answer.Lists ≡ answer_of x → 16384 ≤ n
-    roomy (lowering.lists ls) e a = (lowered_by limits01 F n ls e).in_slice_lem
-    roomy (lowering.refusal k) e a = let z : ◌≡◌ {A = ℕ} 0 1 = cc in absurd (omega arith)
-
-    pub lowered_room : Lowers limits01 F n answer.Lists w → 16384 ≤ n
-    lowered_room l = roomy (lowered_with limits01 F n) refl l.answer
-
-    -- none were made
-    numbered : (k : ℕ) (x : lowering.Lists) → lowered_with limits01 F n ≡ x → answer.Refused k ≡ answer_of x → (1 ≤ k) × (k ≤ 13)
-    unfolding compile_with
-    numbered k (lowering.lists ls) e a = let z : ◌≡◌ {A = ℕ} 0 1 = cc in absurd (omega arith)
-    numbered k (lowering.refusal m) e a =
-        let q : compile_with limits01 F n 0 ≡ refused m = rw e in
-        let same : k ≡ m = cc in
-        rw same (theorems.refusal_numbers F n 0 m q)
-
-    pub lowered_number : (k : ℕ) → Lowers limits01 F n (answer.Refused k) w → (1 ≤ k) × (k ≤ 13)
-    lowered_number k l = numbered k (lowered_with limits01 F n) refl l.answer
-
-    module _ (room k : ℕ) (out : List ℕ) (zeros : out ≡ zeros_of room) where
-      stopped : (x : lowering.Lists) → lowered_with limits01 F n ≡ x → answer.Refused k ≡ answer_of x → LeftList limits01 F x w → length w ≡ n →
-          Compiles limits01 F n room k 0 out w
-      unfolding zeros_of compile_with
-      stopped (lowering.lists ls) e a h l = let z : ◌≡◌ {A = ℕ} 0 1 = cc in absurd (omega arith)
-      stopped (lowering.refusal m) e a h l =
-          let q : compile_with limits01 F n room ≡ refused m = rw e in
-          let same : k ≡ m = cc in
-          record { answer = rw q same; bytes = rw q; whole_output = rw q zeros; list_length = l; whole_list = rw q h }
-
-      pub refused_lowering : Lowers limits01 F n (answer.Refused k) w → Compiles limits01 F n room k 0 out w
-      refused_lowering l = stopped (lowered_with limits01 F n) refl l.answer l.whole_list l.list_length
+  -- none were made
+  pub refused_lowering : (room : ℕ) (e : Refusal) (out : List ℕ) → out ≡ zeros_of room → Lowers limits01 F n (Err e) w → Compiles limits01 F n room (number_of e) 0 out w
+  unfolding zeros_of compile_with
+  refused_lowering room e out zeros l =
+      let q : compile_with limits01 F n room ≡ refused (number_of e) = rw l.answer in
+      record { answer = rw q; bytes = rw q; whole_output = rw q zeros; list_length = l.list_length; whole_list = rw q (rw l.answer at l.whole_list) }
 
 -- lists that were made, and what the writer left
 module _ (F w : List ℕ) (h : Lowered F w) (n room : ℕ) (long : 16384 ≤ n) where
@@ -165,18 +134,15 @@ module _ (F w : List ℕ) (h : Lowered F w) (n room : ℕ) (long : 16384 ≤ n) 
         go (Err k) h q = refused_writing (number_of k) out h.number h.count h.whole
 
 -- by the answer of lowering
-module _ (F : List ℕ) (n : ℕ) (w : List ℕ) (r : code.Lowered) (l : Lowers limits01 F n r w) where
-  pub when_lists : r ≡ answer.Lists → Lowered F w
+module _ (F : List ℕ) (n : ℕ) (w : List ℕ) (r : Result (Unit {0}) Refusal) (l : Lowers limits01 F n r w) where
+  pub when_lists : {u : Unit {0}} → r ≡ Ok u → Lowered F w
   when_lists e = lowered_lists F n w (rw e at l)
 
-  pub when_room : r ≡ answer.Lists → 16384 ≤ length w
+  pub when_room : {u : Unit {0}} → r ≡ Ok u → 16384 ≤ length w
   when_room e = rw l.list_length (lowered_room F n w (rw e at l))
 
-  pub when_numbered : (k : ℕ) → r ≡ answer.Refused k → (1 ≤ k) × (k ≤ 13)
-  when_numbered k e = lowered_number F n w k (rw e at l)
-
-  pub when_stopped : (room k : ℕ) (out : List ℕ) → out ≡ zeros_of room → r ≡ answer.Refused k → Compiles limits01 F n room k 0 out w
-  when_stopped room k out z e = refused_lowering F n w room k out z (rw e at l)
+  pub when_stopped : (room : ℕ) (e : Refusal) (out : List ℕ) → out ≡ zeros_of room → r ≡ Err e → Compiles limits01 F n room (number_of e) 0 out w
+  when_stopped room e out z q = refused_lowering F n w room e out z (rw q at l)
 
 -- a call's bytes lie in its output
 module _ (F : List ℕ) (n room : ℕ) where
