@@ -15,19 +15,12 @@ use Rattle.action_format.specs.Lists.{all}
 use Rattle.list_slice.specs.Entry.{Entry, entry}
 use Rattle.list_slice.proofs.Read.{map_append}
 use Rattle.builder.specs.Entries.{put3}
+use Rattle.record_reader.proofs.Bools.{all_append}
 use Rattle.action_reader.specs.declared.walk.Walk.{Walk}
 use Rattle.action_reader.specs.Walk.{settle, lands, is_branch, seek, found, or_zero}
 use Rattle.action_reader.specs.Layout.{layout}
 use Rattle.action_reader.specs.Lists.{Given, Lost, Moved, positions_of}
 use Rattle.action_reader.proofs.Slice.{moves, reads_code, reads_first, reads_second}
-
-pub all_append : {A : Type 0} (f : A → Bool) (xs ys : List A) → all f (xs ++ ys) ≡ all f xs && all f ys
-all_append f [] ys = refl
-all_append f (x ∷ xs) ys = rw (all_append f xs ys) (and_assoc (f x) (all f xs) (all f ys))
-  where
-    and_assoc : (a b c : Bool) → a && (b && c) ≡ (a && b) && c
-    and_assoc true b c = refl
-    and_assoc false b c = refl
 
 -- k entries have moved
 pub record Half (ps : List ℕ) (k : ℕ) (low xs up : List Entry) (ends : List ℕ) (w : List ℕ) : Type 0 where
