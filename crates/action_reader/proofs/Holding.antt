@@ -1,5 +1,5 @@
 -- What has been read, after each step.
-use Prim.Native.Nat.{ℕ, zero, suc, ◌+◌, ◌-◌, ◌≤◌, ◌<◌}
+use Prim.Native.Nat.{ℕ, suc, ◌+◌, ◌-◌, ◌≤◌, ◌<◌}
 use mathlib.Core.Path.{◌≡◌, refl, sym, ap, ◌∙◌}
 use mathlib.Core.List.{List, [], ◌∷◌, ◌++◌}
 use mathlib.Core.Bool.{true}
@@ -7,7 +7,7 @@ use mathlib.Core.Option.{none, some}
 use native.Mathlib.Omega.{arith}
 use lib.Dec.{T, leb, le→leb}
 use lib.ListN.{length, take, drop, length-take, length-drop}
-use lib.Seq.{slice_empty, drop-drop, take-take, take-nil}
+use lib.Seq.{slice_empty, drop-drop, take-take}
 use Rattle.std.proofs.lemmas.List.{drop-take}
 use Rattle.hir.specs.Hir.{Str}
 use Rattle.pcode.specs.Pcode.{Header, define}
