@@ -1,7 +1,7 @@
 -- The loop that settles and moves a list.
 use Prim.Native.Nat.{ℕ, suc, ◌+◌, ◌-◌, ◌*◌, ◌≤◌, ◌<◌}
-use mathlib.Core.Path.{◌≡◌, refl, sym, ap, ◌∙◌, subst}
-use mathlib.Core.List.{List, [], ◌∷◌, ◌++◌, map, append_assoc, append-nil}
+use mathlib.Core.Path.{◌≡◌, refl, sym, ap, ◌∙◌}
+use mathlib.Core.List.{List, [], ◌∷◌, ◌++◌, map, append_assoc}
 use mathlib.Core.Bool.{Bool, true, false, cond, ◌&&◌}
 use mathlib.Core.Option as math
 use mathlib.Core.Option.{none, some}
@@ -10,24 +10,17 @@ use Rattle.std.proofs.lemmas.Option.{same_Some}
 use Rattle.record_reader.specs.Steps.{some_of}
 use native.Mathlib.Omega.{arith}
 use lib.ListN.{length, get_or, take, drop, length-append, length-map, length-take, length-drop, take-append-drop}
-use lib.Seq.{drop-cons, take-suc, take-length, drop-length}
+use lib.Seq.{drop-cons, take-suc}
 use Rattle.action_format.specs.Lists.{all}
 use Rattle.list_slice.specs.Entry.{Entry, entry}
 use Rattle.list_slice.proofs.Read.{map_append}
 use Rattle.builder.specs.Entries.{put3}
+use Rattle.record_reader.proofs.Bools.{all_append}
 use Rattle.action_reader.specs.declared.walk.Walk.{Walk}
 use Rattle.action_reader.specs.Walk.{settle, lands, is_branch, seek, found, or_zero}
 use Rattle.action_reader.specs.Layout.{layout}
-use Rattle.action_reader.specs.Lists.{Given, Lost, Moved, positions_of}
+use Rattle.action_reader.specs.Lists.{Given, Lost, positions_of}
 use Rattle.action_reader.proofs.Slice.{moves, reads_code, reads_first, reads_second}
-
-pub all_append : {A : Type 0} (f : A → Bool) (xs ys : List A) → all f (xs ++ ys) ≡ all f xs && all f ys
-all_append f [] ys = refl
-all_append f (x ∷ xs) ys = rw (all_append f xs ys) (and_assoc (f x) (all f xs) (all f ys))
-  where
-    and_assoc : (a b c : Bool) → a && (b && c) ≡ (a && b) && c
-    and_assoc true b c = refl
-    and_assoc false b c = refl
 
 -- k entries have moved
 pub record Half (ps : List ℕ) (k : ℕ) (low xs up : List Entry) (ends : List ℕ) (w : List ℕ) : Type 0 where
