@@ -23,7 +23,9 @@ fn compile_and_write<R: Eprint, W: Write>(
     out: &mut W,
 ) -> Result<()> {
     match rascal::compile(file, list, output) {
-        Ok(n) => out.write_all(&output[..n]).context("writing standard output"),
+        Ok(n) => out
+            .write_all(&output[..n])
+            .context("writing standard output"),
         Err(refusal) => say_refused(rt, refusal).context("writing standard error"),
     }
 }

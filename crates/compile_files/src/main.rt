@@ -13,12 +13,7 @@ use std::io::{BufWriter, Write};
 mod edges;
 
 // The lists and the bytes of a script file; of more than 20,000 bytes only a sum.
-fn put_success<W: Write>(
-    file: &[u8],
-    list: &[u32],
-    bytes: &[u8],
-    out: &mut W,
-) -> io::Result<()> {
+fn put_success<W: Write>(file: &[u8], list: &[u32], bytes: &[u8], out: &mut W) -> io::Result<()> {
     if bytes.len() > 20000 {
         return put_sum(bytes, out);
     }
