@@ -1,5 +1,5 @@
 -- The string of a reference, in a file of the allowed size; and a property's number.
-use Prim.Native.Nat.{ℕ, suc, ◌+◌, ◌≤◌, ◌<◌}
+use Prim.Native.Nat.{ℕ, suc, ◌+◌, ◌-◌, ◌≤◌, ◌<◌}
 use mathlib.Core.Path.{◌≡◌, refl}
 use mathlib.Core.Bool.{Bool, true, false, cond, ◌||◌}
 use mathlib.Core.List.{List, [], ◌∷◌}
@@ -8,15 +8,18 @@ use lib.Dec.{T, eqb, ltb}
 use lib.ListN.{length}
 use borrow.Author.Tests.{eqb-true}
 use Rattle.std.specs.Prelude.{Some}
-use Rattle.script_records.specs.Layout.{layout_of, string_at}
-use Rattle.script_records.proofs.LayoutLaws.{end_short, string_empty}
+use Rattle.script_records.specs.Layout.{layout_of, start_at, string_at}
+use Rattle.script_records.proofs.LayoutLaws.{end_short}
 use Rattle.special_properties.specs.SpecialProperties.{names, same_spelling, first_from, get_special_property}
 use Rattle.special_properties.proofs.Table.{names_count}
 use Rattle.list_slice.specs.File.{text_in, names_string}
 
 -- the end offset of such an index would lie outside the file
 no_string_at : (F : List ℕ) → length F ≤ 1048576 → [] ≡ string_at F (layout_of F) 4294967295
-no_string_at F h = string_empty F (layout_of F) 4294967295 refl (end_short F (layout_of F) 4294967295 (omega arith)) (omega arith)
+unfolding string_at
+no_string_at F h =
+    let z : 0 - start_at F (layout_of F) 4294967295 ≡ 0 = omega arith in
+    rw (← end_short F (layout_of F) 4294967295 (omega arith), z)
 
 pub text_is : (F : List ℕ) (s : ℕ) → length F ≤ 1048576 → text_in F s ≡ string_at F (layout_of F) s
 unfolding text_in

@@ -1,5 +1,5 @@
 -- What has been read, after each step.
-use Prim.Native.Nat.{ℕ, zero, suc, ◌+◌, ◌-◌, ◌≤◌, ◌<◌}
+use Prim.Native.Nat.{ℕ, suc, ◌+◌, ◌-◌, ◌≤◌, ◌<◌}
 use mathlib.Core.Path.{◌≡◌, refl, sym, ap, ◌∙◌}
 use mathlib.Core.List.{List, [], ◌∷◌, ◌++◌}
 use mathlib.Core.Bool.{true}
@@ -7,7 +7,8 @@ use mathlib.Core.Option.{none, some}
 use native.Mathlib.Omega.{arith}
 use lib.Dec.{T, leb, le→leb}
 use lib.ListN.{length, take, drop, length-take, length-drop}
-use lib.Seq.{slice_empty, drop-drop, take-take, take-nil}
+use lib.Seq.{slice_empty, drop-drop, take-take}
+use Rattle.std.proofs.lemmas.List.{drop-take}
 use Rattle.hir.specs.Hir.{Str}
 use Rattle.pcode.specs.Pcode.{Header, define}
 use Rattle.action_format.specs.Lists.{Single, single, all}
@@ -26,17 +27,9 @@ use Rattle.action_reader.proofs.Weights.{total_append}
 -- parts of bytes
 
 take_of_drop : (b : Bytes) (n k e : ℕ) → n + k ≤ e → take k (drop n (take e b)) ≡ drop n (take (n + k) b)
-take_of_drop b zero k e h = take-take k e b (omega arith) ∙ ap (λ (m : ℕ). take m b) same
-  where
-    same : k ≡ 0 + k
-    same = omega arith
-take_of_drop [] (suc n) k zero h = absurd (omega arith)
-take_of_drop [] (suc n) k (suc e) h = rw (take-nil {A = ℕ} (suc n + k), take-nil {A = ℕ} k)
-take_of_drop (x ∷ b) (suc n) k zero h = absurd (omega arith)
-take_of_drop (x ∷ b) (suc n) k (suc e) h = take_of_drop b n k e (omega arith) ∙ ap (λ (m : ℕ). drop (suc n) (take m (x ∷ b))) more
-  where
-    more : suc (n + k) ≡ suc n + k
-    more = omega arith
+take_of_drop b n k e h =
+    let m : e ≡ n + (e - n) = omega arith in
+    ap (λ (i : ℕ). take k (drop n (take i b))) m ∙ rw (drop-take n (e - n) b, drop-take n k b) (take-take k (e - n) (drop n b) (omega arith))
 
 cut_law : (b : Bytes) (n k e : ℕ) → n + k ≤ e → e ≤ length b → read_bytes k (drop n (take e b)) ≡ some (drop n (take (n + k) b), drop (n + k) (take e b))
 unfolding read_bytes

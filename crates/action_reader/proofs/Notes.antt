@@ -1,5 +1,5 @@
 -- The table of positions and the kept ends, after each step.
-use Prim.Native.Nat.{ℕ, zero, suc, ◌+◌, ◌-◌, ◌≤◌, ◌<◌}
+use Prim.Native.Nat.{ℕ, suc, ◌+◌, ◌-◌, ◌≤◌, ◌<◌}
 use mathlib.Core.Path.{◌≡◌, refl, sym, ap, ◌∙◌}
 use mathlib.Core.List.{List, [], ◌∷◌, ◌++◌, append_assoc, append-nil}
 use native.Mathlib.Omega.{arith}
@@ -7,6 +7,7 @@ use native.Mathlib.Decide.{dec_lt}
 use native.Mathlib.Numerals.{add-one}
 use lib.ListN.{length, get_or, set, take, drop, length-append, length-map, length-set}
 use lib.Seq.{take-suc-set, get_or-set_same, get_or-set_other, get_or-take, take-take, take-append_seam, drop-append_seam, get_or-append_seam}
+use Rattle.std.proofs.lemmas.List.{drop-take}
 use Rattle.list_slice.specs.Read.{Placed}
 use Rattle.list_slice.proofs.Read.{map_append}
 use Rattle.action_reader.specs.declared.walk.Span.{Span}
@@ -18,21 +19,7 @@ use Rattle.action_reader.specs.State.{no_span}
 use Rattle.action_reader.specs.View.{positions, upper, marks, saves, Noted, Kept}
 
 drop_of_take : (t : List ℕ) (a n : ℕ) → a ≤ n → take (n - a) (drop a t) ≡ drop a (take n t)
-drop_of_take t zero n h = ap (λ (k : ℕ). take k t) (same n)
-  where
-    same : (k : ℕ) → k - 0 ≡ k
-    same k = omega arith
-drop_of_take [] (suc a) zero h = absurd (omega arith)
-drop_of_take [] (suc a) (suc n) h = none (suc n - suc a)
-  where
-    none : (k : ℕ) → take {A = ℕ} k [] ≡ []
-    none zero = refl
-    none (suc k) = refl
-drop_of_take (x ∷ t) (suc a) zero h = absurd (omega arith)
-drop_of_take (x ∷ t) (suc a) (suc n) h = ap (λ (k : ℕ). take k (drop a t)) same ∙ drop_of_take t a n (omega arith)
-  where
-    same : suc n - suc a ≡ n - a
-    same = omega arith
+drop_of_take t a n h = sym (drop-take a (n - a) t) ∙ ap (λ (i : ℕ). drop a (take i t)) (omega arith)
 
 take_at : {A : Type 0} (n : ℕ) (xs ys : List A) (t : List A) (m : ℕ) → n ≤ m → take m t ≡ xs ++ ys → length xs ≡ n → take n t ≡ xs
 take_at n xs ys t m h e l = sym (take-take n m t h) ∙ rw e (rw (← l) (take-append_seam xs ys))

@@ -1,7 +1,7 @@
 -- The loop that settles and moves a list.
 use Prim.Native.Nat.{ℕ, suc, ◌+◌, ◌-◌, ◌*◌, ◌≤◌, ◌<◌}
-use mathlib.Core.Path.{◌≡◌, refl, sym, ap, ◌∙◌, subst}
-use mathlib.Core.List.{List, [], ◌∷◌, ◌++◌, map, append_assoc, append-nil}
+use mathlib.Core.Path.{◌≡◌, refl, sym, ap, ◌∙◌}
+use mathlib.Core.List.{List, [], ◌∷◌, ◌++◌, map, append_assoc}
 use mathlib.Core.Bool.{Bool, true, false, cond, ◌&&◌}
 use mathlib.Core.Option as math
 use mathlib.Core.Option.{none, some}
@@ -10,24 +10,17 @@ use Rattle.std.proofs.lemmas.Option.{same_Some}
 use Rattle.record_reader.specs.Steps.{some_of}
 use native.Mathlib.Omega.{arith}
 use lib.ListN.{length, get_or, take, drop, length-append, length-map, length-take, length-drop, take-append-drop}
-use lib.Seq.{drop-cons, take-suc, take-length, drop-length}
+use lib.Seq.{drop-cons, take-suc}
 use Rattle.action_format.specs.Lists.{all}
 use Rattle.list_slice.specs.Entry.{Entry, entry}
 use Rattle.list_slice.proofs.Read.{map_append}
 use Rattle.builder.specs.Entries.{put3}
+use Rattle.record_reader.proofs.Bools.{all_append}
 use Rattle.action_reader.specs.declared.walk.Walk.{Walk}
 use Rattle.action_reader.specs.Walk.{settle, lands, is_branch, seek, found, or_zero}
 use Rattle.action_reader.specs.Layout.{layout}
-use Rattle.action_reader.specs.Lists.{Given, Lost, Moved, positions_of}
+use Rattle.action_reader.specs.Lists.{Given, Lost, positions_of}
 use Rattle.action_reader.proofs.Slice.{moves, reads_code, reads_first, reads_second}
-
-pub all_append : {A : Type 0} (f : A → Bool) (xs ys : List A) → all f (xs ++ ys) ≡ all f xs && all f ys
-all_append f [] ys = refl
-all_append f (x ∷ xs) ys = rw (all_append f xs ys) (and_assoc (f x) (all f xs) (all f ys))
-  where
-    and_assoc : (a b c : Bool) → a && (b && c) ≡ (a && b) && c
-    and_assoc true b c = refl
-    and_assoc false b c = refl
 
 -- k entries have moved
 pub record Half (ps : List ℕ) (k : ℕ) (low xs up : List Entry) (ends : List ℕ) (w : List ℕ) : Type 0 where
@@ -40,12 +33,6 @@ pub record Settling (w₀ : List ℕ) (s : Walk) (ps w : List ℕ) (low top : �
   pub from : s.top ≤ top
   pub to : top ≤ s.span.base
   pub half : (lows xs up : List Entry) (ends : List ℕ) → Given w₀ s lows xs up ends → Half ps (top - s.top) lows xs up ends w
-
-none_moved : {w : List ℕ} {s : Walk} {ps : List ℕ} {lows xs up : List Entry} {ends : List ℕ} (k : ℕ) → k ≡ 0 → Given w s lows xs up ends → Half ps k lows xs up ends w
-none_moved {lows = lows} k e g = rw e (record { landed = refl; words = rw (append-nil lows) g.words })
-
-pub settle_holds : {w : List ℕ} {s : Walk} {ps : List ℕ} → s.top ≤ s.span.base → Settling w s ps w s.low s.top
-settle_holds {s = s} h = record { long = refl; step = omega arith; from = omega arith; to = h; half = λ lows xs up ends g. none_moved (s.top - s.top) (omega arith) g }
 
 abbrev nothing : Entry
 nothing = entry 0 0 0
@@ -179,13 +166,3 @@ module _ {w₀ : List ℕ} {s : Walk} {w : List ℕ} {low top : ℕ} (i : Settli
       let a = code_is i more cap down lows xs up ends g in
       let b = first_is i more cap down lows xs up ends g in
       lost i more cap down lows xs up ends g (rw (a, b) at q)
-
-  pub settle_done : top ≡ s.span.base → (lows xs up : List Entry) (ends : List ℕ) → Given w₀ s lows xs up ends → Moved s lows xs up ends low w
-  settle_done e lows xs up ends g =
-      let m : top - s.top ≡ length xs = omega (arith, g.own_is, i.from) in
-      let h : Half ps (length xs) lows xs up ends w = subst (λ (j : ℕ). Half ps j lows xs up ends w) m (i.half lows xs up ends g) in
-      record {
-        landed = rw (take-length xs) at h.landed;
-        words = rw (take-length xs, drop-length xs) at h.words;
-        low_is = omega (arith, g.low_is, g.own_is, i.step);
-      }

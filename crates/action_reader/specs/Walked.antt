@@ -1,5 +1,5 @@
 -- How reading stands after a step: going on, at its end, or refused.
-use Rattle.std.specs.Prelude.{ℕ, ◌+◌, ◌-◌, ◌*◌, ◌<◌, ◌≡◌, List, false, Option, MatchOption, length, drop}
+use Rattle.std.specs.Prelude.{ℕ, ◌+◌, ◌-◌, ◌*◌, ◌<◌, ◌≡◌, List, true, false, Option, Some, MatchOption, length, take, drop}
 use Rattle.std.proofs.Math.Option.{none, some}
 use Rattle.lowering.specs.Builder.{limits01}
 use Rattle.action_format.specs.Lists.{Lists}
@@ -7,6 +7,8 @@ use Rattle.action_format.specs.Bytes.{Bytes}
 use Rattle.action_format.specs.Decode.{decode}
 use Rattle.list_slice.specs.Read.{read_words}
 use Rattle.definition.specs.Outcome.{byte_limits}
+use Rattle.record_reader.specs.declared.Head.{Head}
+use Rattle.record_reader.specs.Heads.{head_at}
 use Rattle.action_reader.specs.declared.walk.Walk.{Walk}
 use Rattle.action_reader.specs.State.{is_end}
 use Rattle.action_reader.specs.View.{Stands}
@@ -38,3 +40,10 @@ Stepped s r o w = OrRefused s.bytes.now o (λ _. Further s r w)
 pub record Inside (s : Walk) : Type 0 where
   pub body : (s.depth ≡ 0 → ⊥) → s.at ≡ s.span.end → ⊥
   pub top : s.depth ≡ 0 → is_end (drop s.at s.bytes.now) ≡ false
+
+-- the record that is next keeps the rules by itself, and there is room for its action
+pub record Next (w : List ℕ) (s : Walk) (h : Head) : Type 0 where
+  pub stands : Stands s.bytes.now w s
+  pub head : Some h ≡ head_at (take s.span.end s.bytes.now) s.at s.pool
+  pub fits : h.fits ≡ true
+  pub few : s.actions < 1024

@@ -20,7 +20,7 @@ mod step;
 mod targets;
 mod walk;
 
-// The fewest words that a list slice has.
+// The fewest words that a list slice has. The caller's slice may be longer, so no type of it says so, and what writes it requires it.
 const LIST_WORDS: usize = 16384;
 
 // How many bytes were read.

@@ -4,7 +4,7 @@ ghost use Rattle.list_slice.specs.Words.{zeros_of};
 ghost use Rattle.action_reader.specs.Walked.{OrRefused, Done};
 
 use crate::begin::begin;
-use crate::walk::{Span, Walk};
+use crate::walk::{MAX_ACTIONS, MAX_ENTRIES, Span, Walk};
 
 // `None` if the bytes are not action bytes.
 pub fn read_lists(bytes: &[u8], list: &mut [u32]) -> Option<()>
@@ -18,23 +18,23 @@ pub fn read_lists(bytes: &[u8], list: &mut [u32]) -> Option<()>
         at,
         span: Span {
             end: bytes.len(),
-            base: 4096,
+            base: MAX_ENTRIES,
             first: 0,
         },
         actions: 1,
         values: 0,
         low: 0,
-        top: 4095,
+        top: MAX_ENTRIES - 1,
         lists: 0,
         places: 1,
         depth: 0,
         pool,
-        table: [0; 1024],
+        table: [0; MAX_ACTIONS],
         outer: [Span {
             end: 0,
             base: 0,
             first: 0,
-        }; 1024],
+        }; MAX_ACTIONS],
     };
     while !walk.is_over() {
         walk.step(list)?;

@@ -5,6 +5,13 @@ ghost use Rattle.action_reader.specs.State.{advanced, single_after, open_after, 
 
 use builder::entries::put;
 
+// The most entries, actions, and pushed values that the list slice has room for.
+pub const MAX_ENTRIES: usize = 4096;
+
+pub const MAX_ACTIONS: usize = 1024;
+
+pub const MAX_VALUES: usize = 2048;
+
 // Where a list ends in the bytes and among the entries, and where its positions begin in the table.
 #[derive(Clone, Copy)]
 pub struct Span {
@@ -14,7 +21,8 @@ pub struct Span {
 }
 
 // The present list is read from `at` on. Its entries stand from entry `top` on, its positions in the table before `places`. Finished lists stand below
-// entry `low`. `outer` has the spans of the lists around, as many as `depth` says.
+// entry `low`. `outer` has the spans of the lists around, as many as `depth` says. The list slice is no field: each method would have to say of it that it is
+// still the caller's.
 #[derive(Drop)]
 pub struct Walk<'a> {
     pub bytes: &'a [u8],
@@ -28,8 +36,8 @@ pub struct Walk<'a> {
     pub places: usize,
     pub depth: usize,
     pub pool: usize,
-    pub table: [u32; 1024],
-    pub outer: [Span; 1024],
+    pub table: [u32; MAX_ACTIONS],
+    pub outer: [Span; MAX_ACTIONS],
 }
 
 impl Walk<'_> {

@@ -1,8 +1,8 @@
 -- Decoding: tables and two's complement.
-use Prim.Native.Nat.{ℕ, zero, suc, ◌+◌, ◌-◌, ◌/◌, ◌%◌, ◌^◌, ◌≤◌, ◌<◌}
+use Prim.Native.Nat.{ℕ, zero, suc, ◌-◌, ◌/◌, ◌%◌, ◌^◌, ◌≤◌, ◌<◌}
 use mathlib.Core.Path.{◌≡◌, refl, sym, ap, ◌∙◌}
-use mathlib.Core.List.{List, [], ◌∷◌}
-use lib.ListN.{length, get_or, get_or-eq_default}
+use mathlib.Core.List.{List}
+use lib.ListN.{length, get_or}
 use Rattle.hir.specs.declared.Record.TheVariants as kind
 use mathlib.Core.Bool.{Bool, false}
 use native.Mathlib.Omega.{arith}
@@ -14,15 +14,13 @@ use Rattle.std.proofs.Common.{inl, inr}
 use Rattle.std.proofs.lemmas.Bool.{cases_lt}
 use lib.Dec.{eqb-suc-zero}
 use borrow.Author.Tests.{lt-ltb, le-ltb, ne_eqb}
-use Rattle.std.specs.Prelude.{◌⊎◌, Option, Some, None, SomeIff, Result, Ok, Err}
+use Rattle.std.specs.Prelude.{◌⊎◌, Option, Some, None, SomeIff, Err}
 use Rattle.std.proofs.Math.Nat.{div-one}
 use Rattle.std.proofs.lemmas.List.FromFn.{fill_by_all}
-use Rattle.script_records.specs.declared.kind.Kind.{Kind}
 use Rattle.script_records.specs.declared.kind.UnknownKind.{UnknownKind}
-use Rattle.script_records.specs.Kind.{number_of, kind_from}
-use Rattle.script_records.proofs.KindLaws.{number_from, same_kind, unknown_from}
+use Rattle.script_records.specs.Kind.{kind_from}
+use Rattle.script_records.proofs.KindLaws.{unknown_from}
 use Rattle.script_records.proofs.LayoutLaws.{supported_high}
-use Rattle.hir.specs.declared.Record.{Record}
 use Rattle.decode.specs.Decode.{signed, is_one, plain_of, record_of, name_of, marks_of}
 use Rattle.script_records.specs.Layout.{Words}
 
@@ -54,25 +52,8 @@ plain_gap : (k : ℕ) → 16 ≤ k → k < 32 → plain_of k ≡ kind.Other
 unfolding plain_of
 plain_gap k h l = rw (← supported_high k (λ e. omega arith) (omega arith), le-ltb k 16 h, lt-ltb k 32 l)
 
--- from kind i on, the records of a table are those of the definition
-abbrev pub Table : List Record → ℕ → Type 0
-Table [] i = Unit {0}
-Table (r ∷ rs) i = (plain_of i ≡ r) × Table rs (suc i)
-
-plain_in : (rs : List Record) (i n : ℕ) → Table rs i → n < length rs → plain_of (n + i) ≡ get_or rs n kind.Other
-plain_in [] i n t h = absurd (omega arith)
-plain_in (r ∷ rs) i zero t h = ap plain_of (omega arith) ∙ t.0
-plain_in (r ∷ rs) i (suc n) t h = ap plain_of (omega arith) ∙ plain_in rs (suc i) n t.1 (omega arith)
-
-pub plain_by_table : (rs : List Record) (k : ℕ) → length rs ≡ 102 → Table rs 0 → get_or rs k kind.Other ≡ plain_of k
-plain_by_table rs k n t =
-    elim (cases_lt k 102) [
-      | inl low ↦ sym (ap plain_of (omega arith) ∙ plain_in rs 0 k t (omega arith))
-      | inr high ↦ get_or-eq_default rs kind.Other (omega arith) ∙ sym (plain_high k (omega arith) (λ e. omega arith) (λ e. omega arith) (λ e. omega arith))
-    ]
-
 -- a record whose words' kind is none of those with words of their own
-pub record_plain : (w : Words) → (w.kind ≡ 0 → ⊥) → (w.kind ≡ 5 → ⊥) → (w.kind ≡ 32 → ⊥) → (w.kind ≡ 40 → ⊥) → (w.kind ≡ 41 → ⊥) → (w.kind ≡ 49 → ⊥) → (w.kind ≡ 52 → ⊥)
+record_plain : (w : Words) → (w.kind ≡ 0 → ⊥) → (w.kind ≡ 5 → ⊥) → (w.kind ≡ 32 → ⊥) → (w.kind ≡ 40 → ⊥) → (w.kind ≡ 41 → ⊥) → (w.kind ≡ 49 → ⊥) → (w.kind ≡ 52 → ⊥)
     → (w.kind ≡ 69 → ⊥) → (w.kind ≡ 75 → ⊥) → (w.kind ≡ 76 → ⊥) → (w.kind ≡ 97 → ⊥) → (w.kind ≡ 98 → ⊥) → (w.kind ≡ 99 → ⊥) → plain_of w.kind ≡ record_of w
 unfolding record_of
 record_plain w a b c d e f g h i j k l m =
@@ -107,14 +88,6 @@ record_unknown w h = elim (unknown_from w.kind h) [
     | inr past ↦ sym (plain_high w.kind (omega arith) (λ e. omega arith) (λ e. omega arith) (λ e. omega arith)) ∙ none_of_them w (omega arith) (inr (omega arith)) (inr (omega arith))
   ]
 ]
-
--- a record of kind j, as the code finds it out
-pub kind_is : {n : ℕ} {o : Result Kind UnknownKind} {k j : Kind} → o ≡ kind_from n → o ≡ Ok k → k ≡ j → n ≡ number_of j
-kind_is {n} a b c = rw (← c) (number_from n (sym a ∙ b))
-
--- a record of another kind
-pub kind_is_not : {n : ℕ} {o : Result Kind UnknownKind} {k : Kind} (j : Kind) → o ≡ kind_from n → o ≡ Ok k → (k ≡ j → ⊥) → n ≡ number_of j → ⊥
-kind_is_not {n} j a b h e = h (same_kind j (ap kind_from (sym e) ∙ sym a ∙ b))
 
 -- a name by its number
 pub name_found : (a : ℕ) (o : Option ℕ) → SomeIff o (1 ≤ a) (a - 1) → o ≡ name_of a

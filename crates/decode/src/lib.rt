@@ -3,6 +3,7 @@
 // A record's words as the enum of `hir`, and a function's record as a struct.
 ghost use Rattle.std.specs.Prelude.{◌≡◌, ◌<◌, get_or};
 ghost use Rattle.hir.specs.declared.BinaryOperator as binary;
+ghost use Rattle.script_records.specs.Kind.{number_of};
 ghost use Rattle.script_records.specs.Layout.{words_of, supported};
 ghost use Rattle.decode.specs.Decode.{signed, is_one, binary_operators, affix_of, unary_of, constant_of, condition_of, statement_kinds, expr_kinds, plain_of, record_of, name_of, function_of};
 
@@ -129,112 +130,6 @@ fn condition(r: Row) -> ForCondition
     ForCondition::Enumerate(EnumeratorTarget::Register((r.c % 256) as u8))
 }
 
-// Records by their kinds' numbers, for the kinds that say all of a record; any record stands at the places of the others.
-static PLAIN: [Record; 102] = [
-    Record::Statement(StatementKind::Break),
-    Record::Statement(StatementKind::Return),
-    Record::Statement(StatementKind::Throw),
-    Record::Statement(StatementKind::Expr),
-    Record::Statement(StatementKind::Block),
-    Record::Statement(StatementKind::Break),
-    Record::Statement(StatementKind::While),
-    Record::Statement(StatementKind::If),
-    Record::Statement(StatementKind::Break),
-    Record::Statement(StatementKind::Continue),
-    Record::Other,
-    Record::Other,
-    Record::Other,
-    Record::Other,
-    Record::Other,
-    Record::Statement(StatementKind::Switch),
-    Record::Other,
-    Record::Other,
-    Record::Other,
-    Record::Other,
-    Record::Other,
-    Record::Other,
-    Record::Other,
-    Record::Other,
-    Record::Other,
-    Record::Other,
-    Record::Other,
-    Record::Other,
-    Record::Other,
-    Record::Other,
-    Record::Other,
-    Record::Other,
-    Record::Expr(ExprKind::Call),
-    Record::Expr(ExprKind::Call),
-    Record::Expr(ExprKind::New),
-    Record::Expr(ExprKind::DuplicateMovieClip),
-    Record::Expr(ExprKind::Simple(SimpleKind::AsciiToChar)),
-    Record::Expr(ExprKind::Simple(SimpleKind::MBAsciiToChar)),
-    Record::Expr(ExprKind::Simple(SimpleKind::CallFrame)),
-    Record::Expr(ExprKind::Simple(SimpleKind::GetTime)),
-    Record::Expr(ExprKind::Call),
-    Record::Expr(ExprKind::Call),
-    Record::Expr(ExprKind::Ternary),
-    Record::Expr(ExprKind::InitObject),
-    Record::Expr(ExprKind::InitArray),
-    Record::Expr(ExprKind::Field),
-    Record::Expr(ExprKind::Simple(SimpleKind::TypeOf)),
-    Record::Expr(ExprKind::Delete),
-    Record::Expr(ExprKind::Void),
-    Record::Expr(ExprKind::Call),
-    Record::Expr(ExprKind::Simple(SimpleKind::GetVariable)),
-    Record::Expr(ExprKind::Simple(SimpleKind::SetVariable)),
-    Record::Expr(ExprKind::Call),
-    Record::Other,
-    Record::Expr(ExprKind::Simple(SimpleKind::CastToInteger)),
-    Record::Expr(ExprKind::Simple(SimpleKind::CastToNumber)),
-    Record::Expr(ExprKind::Simple(SimpleKind::CastToString)),
-    Record::Expr(ExprKind::Simple(SimpleKind::CastToObject)),
-    Record::Expr(ExprKind::Simple(SimpleKind::StringLength)),
-    Record::Expr(ExprKind::Simple(SimpleKind::MBStringLength)),
-    Record::Expr(ExprKind::Simple(SimpleKind::CharToAscii)),
-    Record::Expr(ExprKind::Simple(SimpleKind::MBCharToAscii)),
-    Record::Expr(ExprKind::Simple(SimpleKind::Substring)),
-    Record::Expr(ExprKind::Simple(SimpleKind::MBSubstring)),
-    Record::Expr(ExprKind::Simple(SimpleKind::NextFrame)),
-    Record::Expr(ExprKind::Simple(SimpleKind::PreviousFrame)),
-    Record::Expr(ExprKind::Simple(SimpleKind::Play)),
-    Record::Expr(ExprKind::Simple(SimpleKind::Stop)),
-    Record::Expr(ExprKind::Simple(SimpleKind::StopSounds)),
-    Record::Expr(ExprKind::Call),
-    Record::Expr(ExprKind::Simple(SimpleKind::EndDrag)),
-    Record::Expr(ExprKind::Simple(SimpleKind::GetTargetPath)),
-    Record::Expr(ExprKind::Simple(SimpleKind::Trace)),
-    Record::Expr(ExprKind::Simple(SimpleKind::RemoveSprite)),
-    Record::Expr(ExprKind::Simple(SimpleKind::GetRandomNumber)),
-    Record::Expr(ExprKind::Call),
-    Record::Expr(ExprKind::Call),
-    Record::Expr(ExprKind::Simple(SimpleKind::ToggleQuality)),
-    Record::Other,
-    Record::Other,
-    Record::Other,
-    Record::Other,
-    Record::Other,
-    Record::Other,
-    Record::Other,
-    Record::Other,
-    Record::Other,
-    Record::Other,
-    Record::Other,
-    Record::Other,
-    Record::Other,
-    Record::Other,
-    Record::Other,
-    Record::Other,
-    Record::Other,
-    Record::Other,
-    Record::Absent,
-    Record::Other,
-    Record::Other,
-    Record::Other,
-    Record::Case,
-    Record::Default,
-];
-
 // Not one of the kinds that refusal 3 names.
 pub fn is_supported(kind: u32) -> bool
     ensures { result ≡ supported kind }
@@ -245,42 +140,97 @@ pub fn is_supported(kind: u32) -> bool
     !matches!(kind, TRY..=WITH | GET_URL)
 }
 
-// A record whose kind says all of it.
-fn plain(kind: u32) -> Record
-    ensures { result ≡ plain_of kind }
+// A record of that kind.
+#[tactic(auto, unfolding(crate::specs::Decode::record_of, crate::specs::Decode::plain_of, crate::specs::Decode::statement_kinds, crate::specs::Decode::expr_kinds, crate::specs::Decode::condition_of, crate::specs::Decode::constant_of))]
+fn record_of_kind(kind: Kind, r: Row) -> Record
+    ensures { result ≡ record_of (record { kind = number_of kind; a = r.a; b = r.b; c = r.c }) }
 {
-    PLAIN.get(kind as usize).copied().unwrap_or(Record::Other)
-}
-
-// A record's words as an enum.
-pub fn record_of(r: Row) -> Record
-    ensures { result ≡ record_of (words_of r) }
-{
-    let Ok(kind) = Kind::try_from(r.kind) else {
-        return Record::Other;
-    };
     match kind {
         Kind::Declare => Record::Statement(StatementKind::Declare(r.a)),
+        Kind::Return => Record::Statement(StatementKind::Return),
+        Kind::Throw => Record::Statement(StatementKind::Throw),
+        Kind::Expr => Record::Statement(StatementKind::Expr),
+        Kind::Block => Record::Statement(StatementKind::Block),
         Kind::ForIn => Record::Statement(StatementKind::ForIn(condition(r))),
+        Kind::While => Record::Statement(StatementKind::While),
+        Kind::If => Record::Statement(StatementKind::If),
+        Kind::Break => Record::Statement(StatementKind::Break),
+        Kind::Continue => Record::Statement(StatementKind::Continue),
+        Kind::Switch => Record::Statement(StatementKind::Switch),
         Kind::Constant => Record::Expr(ExprKind::Constant(constant(r))),
+        Kind::Call => Record::Expr(ExprKind::Call),
+        Kind::New => Record::Expr(ExprKind::New),
+        Kind::DuplicateMovieClip => Record::Expr(ExprKind::DuplicateMovieClip),
+        Kind::AsciiToChar => Record::Expr(ExprKind::Simple(SimpleKind::AsciiToChar)),
+        Kind::MBAsciiToChar => Record::Expr(ExprKind::Simple(SimpleKind::MBAsciiToChar)),
+        Kind::CallFrame => Record::Expr(ExprKind::Simple(SimpleKind::CallFrame)),
+        Kind::GetTime => Record::Expr(ExprKind::Simple(SimpleKind::GetTime)),
         Kind::Binary => Record::Expr(ExprKind::Binary(binary_operator(r.a))),
         Kind::Unary => Record::Expr(ExprKind::Unary(unary_operator(r.a, r.b))),
+        Kind::Ternary => Record::Expr(ExprKind::Ternary),
+        Kind::InitObject => Record::Expr(ExprKind::InitObject),
+        Kind::InitArray => Record::Expr(ExprKind::InitArray),
+        Kind::Field => Record::Expr(ExprKind::Field),
+        Kind::TypeOf => Record::Expr(ExprKind::Simple(SimpleKind::TypeOf)),
+        Kind::Delete => Record::Expr(ExprKind::Delete),
+        Kind::Void => Record::Expr(ExprKind::Void),
         Kind::Function => Record::Expr(ExprKind::Function {
             name: r.a,
             registers: (r.b % 256) as u8,
             marks: (r.c % 512) as u16,
         }),
+        Kind::GetVariable => Record::Expr(ExprKind::Simple(SimpleKind::GetVariable)),
+        Kind::SetVariable => Record::Expr(ExprKind::Simple(SimpleKind::SetVariable)),
         Kind::GotoFrame => Record::Expr(ExprKind::GotoFrame(r.a != 0)),
+        Kind::CastToInteger => Record::Expr(ExprKind::Simple(SimpleKind::CastToInteger)),
+        Kind::CastToNumber => Record::Expr(ExprKind::Simple(SimpleKind::CastToNumber)),
+        Kind::CastToString => Record::Expr(ExprKind::Simple(SimpleKind::CastToString)),
+        Kind::CastToObject => Record::Expr(ExprKind::Simple(SimpleKind::CastToObject)),
+        Kind::StringLength => Record::Expr(ExprKind::Simple(SimpleKind::StringLength)),
+        Kind::MBStringLength => Record::Expr(ExprKind::Simple(SimpleKind::MBStringLength)),
+        Kind::CharToAscii => Record::Expr(ExprKind::Simple(SimpleKind::CharToAscii)),
+        Kind::MBCharToAscii => Record::Expr(ExprKind::Simple(SimpleKind::MBCharToAscii)),
+        Kind::Substring => Record::Expr(ExprKind::Simple(SimpleKind::Substring)),
+        Kind::MBSubstring => Record::Expr(ExprKind::Simple(SimpleKind::MBSubstring)),
+        Kind::NextFrame => Record::Expr(ExprKind::Simple(SimpleKind::NextFrame)),
+        Kind::PreviousFrame => Record::Expr(ExprKind::Simple(SimpleKind::PreviousFrame)),
+        Kind::Play => Record::Expr(ExprKind::Simple(SimpleKind::Play)),
+        Kind::Stop => Record::Expr(ExprKind::Simple(SimpleKind::Stop)),
+        Kind::StopSounds => Record::Expr(ExprKind::Simple(SimpleKind::StopSounds)),
         Kind::StartDrag => Record::Expr(ExprKind::StartDrag(r.a != 0)),
+        Kind::EndDrag => Record::Expr(ExprKind::Simple(SimpleKind::EndDrag)),
+        Kind::GetTargetPath => Record::Expr(ExprKind::Simple(SimpleKind::GetTargetPath)),
+        Kind::Trace => Record::Expr(ExprKind::Simple(SimpleKind::Trace)),
+        Kind::RemoveSprite => Record::Expr(ExprKind::Simple(SimpleKind::RemoveSprite)),
+        Kind::GetRandomNumber => Record::Expr(ExprKind::Simple(SimpleKind::GetRandomNumber)),
         Kind::GetProperty => Record::Expr(ExprKind::GetProperty(to_signed(r.a))),
         Kind::SetProperty => Record::Expr(ExprKind::SetProperty(to_signed(r.a))),
+        Kind::ToggleQuality => Record::Expr(ExprKind::Simple(SimpleKind::ToggleQuality)),
+        Kind::Absent => Record::Absent,
         Kind::List => Record::List(r.a),
         Kind::ObjectField => Record::ObjectField(r.a),
         Kind::Parameter => Record::Parameter {
             name: r.a,
             register: (r.b % 512) as u16,
         },
-        _ => plain(r.kind),
+        Kind::Case => Record::Case,
+        Kind::Default => Record::Default,
+        Kind::Try
+        | Kind::WaitForFrame
+        | Kind::TellTarget
+        | Kind::InlinePcode
+        | Kind::With
+        | Kind::GetUrl => Record::Other,
+    }
+}
+
+// A record's words as an enum.
+pub fn record_of(r: Row) -> Record
+    ensures { result ≡ record_of (words_of r) }
+{
+    match Kind::try_from(r.kind) {
+        Ok(kind) => record_of_kind(kind, r),
+        Err(_) => Record::Other,
     }
 }
 

@@ -1,5 +1,5 @@
 -- What the answer of a test says of what was read.
-use Rattle.std.proofs.Common.{ℕ, zero, suc, ◌+◌, ◌-◌, ◌≤◌, ◌<◌, ◌≡◌, refl, ap, sym, ◌∙◌, List, [], ◌∷◌, Bool, true, ◌&&◌, Some, None, arith}
+use Rattle.std.proofs.Common.{ℕ, zero, suc, ◌+◌, ◌-◌, ◌<◌, ◌≡◌, refl, ap, sym, ◌∙◌, List, [], ◌∷◌, Bool, ◌&&◌, Some, None, arith}
 use mathlib.Core.Option as math
 use mathlib.Core.Option.{none, some}
 use Rattle.action_format.specs.Lists.{all}
@@ -8,7 +8,7 @@ use Rattle.action_format.specs.Readers.{P, bind, pure, read_many}
 use Rattle.action_format.proofs.Tests.{some_of}
 use Rattle.record_reader.specs.Steps as steps
 use Rattle.record_reader.specs.Steps.{judged, itself, whole}
-use Rattle.record_reader.proofs.Bools.{and_true, and_three}
+use Rattle.record_reader.proofs.Bools.{and_three}
 
 -- x was read, and the test answers y
 
@@ -52,16 +52,6 @@ pub record Left (p : P Bool) (b : Bytes) (count : ℕ) (fits : Bool) (i : ℕ) (
   pub is : judged (all itself) (read_many p count b) ≡ judged (λ t. fits && t) (judged (all itself) (read_many p (count - i) rest))
 
 module _ {p : P Bool} {b : Bytes} {count : ℕ} where
-  pub left_start : Left p b count true 0 b
-  left_start = record { is = rw (all_of count) (go (judged (all itself) (read_many p count b))) }
-    where
-      all_of : (n : ℕ) → n - 0 ≡ n
-      all_of n = omega arith
-
-      go : (o : math.Option (Bool × Bytes)) → o ≡ judged (λ t. true && t) o
-      go none = refl
-      go (some x) = refl
-
   module _ {fits : Bool} {i : ℕ} {rest : Bytes} (l : Left p b count fits i rest) where
     pub left_more : i < count → {one : Bool} {after : Bytes} → some (one, after) ≡ p rest → Left p b count (fits && one) (i + 1) after
     left_more h {one} {after} e =
@@ -74,9 +64,6 @@ module _ {p : P Bool} {b : Bytes} {count : ℕ} where
 
     pub left_fails : i < count → none ≡ p rest → none ≡ judged (all itself) (read_many p count b)
     left_fails h e = let k : count - i ≡ suc (count - (i + 1)) = omega arith in rw (l.is, k, ← e)
-
-    pub left_done : count ≤ i → some (fits, rest) ≡ judged (all itself) (read_many p count b)
-    left_done h = let k : count - i ≡ 0 = omega arith in rw (l.is, k, and_true fits)
 
 pub many_judged : {A : Type 0} (t : A → Bool) (p : P A) (n : ℕ) (b : Bytes) → judged (all itself) (read_many (λ d. judged t (p d)) n b) ≡ judged (all t) (read_many p n b)
 many_judged t p zero b = refl

@@ -1,5 +1,5 @@
 -- A Push's data: as many values as they are.
-use Rattle.std.proofs.Common.{ℕ, zero, suc, ◌+◌, ◌-◌, ◌≤◌, ◌<◌, ◌≡◌, refl, ap, sym, ◌∙◌, List, [], ◌∷◌, ◌++◌, Bool, true, ◌&&◌, Some, None, ltb, arith, length, drop, length-append}
+use Rattle.std.proofs.Common.{ℕ, zero, suc, ◌+◌, ◌-◌, ◌≤◌, ◌<◌, ◌≡◌, refl, ap, sym, ◌∙◌, List, [], ◌∷◌, ◌++◌, Bool, ◌&&◌, Some, None, ltb, arith, length, drop, length-append}
 use mathlib.Core.Option as math
 use mathlib.Core.Option.{none, some}
 use mathlib.Core.List.{append_assoc, append-nil}
@@ -79,19 +79,6 @@ after_one : {A : Type 0} (o : math.Option (List A × Bytes)) (pre : List A) (v :
     bind (bind o (λ xs. pure (v ∷ xs))) (λ xs. pure (pre ++ xs)) ≡ bind o (λ xs. pure ((pre ++ (v ∷ [])) ++ xs))
 after_one none pre v = refl
 after_one (some x) pre v = rw (append_assoc pre (v ∷ []) x.0)
-
-pub values_start : (d : Bytes) (pool : ℕ) → Values d pool 0 true 0
-values_start d pool = record {
-  before = [];
-  is = rw (all_of (length d)) (sym (after_none (read_all read_value (length d) d)));
-  tested = refl;
-  counted = refl;
-  from = omega arith;
-  to = omega arith;
-}
-  where
-    all_of : (n : ℕ) → n - 0 ≡ n
-    all_of n = omega arith
 
 none_left : (n : ℕ) → read_all read_value n [] ≡ some ([], [])
 none_left zero = refl

@@ -9,7 +9,7 @@ use Rattle.std.proofs.Common.{Some}
 use native.Mathlib.Nat.{add-zero, add-suc, suc-add, le_of_suc-le-suc, not-suc-le-zero}
 use lib.Dec.{T, eqb, leb, ltb, ltb→lt}
 use lib.ListN.{length}
-use borrow.Author.Tests.{eqb-true, ne_eqb, lt-leb}
+use borrow.Author.Tests.{eqb-true, lt-leb}
 use Rattle.pcode.specs.declared.Op.{Op}
 use Rattle.pcode.specs.Pcode.{row_of, all_ops}
 use Rattle.action_format.specs.Bytes.{Bytes}
@@ -22,20 +22,6 @@ use Rattle.record_reader.specs.declared.Kind.TheVariants as kind
 use Rattle.record_reader.specs.Heads.{head_of}
 use Rattle.record_reader.specs.Shape.{find_op, short_ops, is_short, data_table, data_reader}
 use Rattle.record_reader.proofs.Bools.{never_true}
-
--- a tag that no row has
-
-module _ {A : Type 0} where
-  abbrev pub Misses : List (ℕ × P A) → ℕ → Type 0
-  Misses [] n = Unit {0}
-  Misses (x ∷ rows) n = (n ≡ x.0 → ⊥) × Misses rows n
-
-  pub dispatch_none : (rows : List (ℕ × P A)) (n : ℕ) (r : Bytes) → Misses rows n → dispatch rows n r ≡ none
-  dispatch_none [] n r h = refl
-  dispatch_none (x ∷ rows) n r h = go (eqb n x.0) (ne_eqb n x.0 h.0) (dispatch_none rows n r h.1)
-    where
-      go : (t : Bool) → t ≡ false → dispatch rows n r ≡ none → (elim t as (λ _. P A) [ true ↦ x.1 | false ↦ dispatch rows n ]) r ≡ none
-      go t e k = rw e k
 
 -- readers of the data, each in a record
 

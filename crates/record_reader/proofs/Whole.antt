@@ -6,16 +6,16 @@ use lib.ListN.{drop_of_length-le}
 use borrow.Author.Tests.{le-leb, lt-leb}
 use Rattle.std.proofs.lemmas.List.{take_rest}
 use Rattle.action_format.specs.Bytes.{Bytes, word}
-use Rattle.action_format.specs.Readers.{P, bind, read_byte, read_bytes, word_reader, spent, read_inside, dispatch}
+use Rattle.action_format.specs.Readers.{P, bind, read_byte, read_bytes, word_reader, spent, read_inside}
 use Rattle.action_format.specs.Decode.{Record, in_record, read_record}
-use Rattle.action_format.proofs.Readers.{◌also◌, reads_byte, reads_word}
+use Rattle.action_format.proofs.Readers.{reads_byte, reads_word}
 use Rattle.record_reader.specs.declared.Content.{Content}
 use Rattle.record_reader.specs.declared.Head.{Head}
 use Rattle.record_reader.specs.declared.Kind.TheVariants as kind
 use Rattle.record_reader.specs.Heads.{head_of, head_at}
-use Rattle.record_reader.specs.Shape.{is_short, data_table, data_reader}
+use Rattle.record_reader.specs.Shape.{is_short, data_reader}
 use Rattle.record_reader.specs.Steps.{whole, content_of}
-use Rattle.record_reader.proofs.Tables.{dispatch_none, long_record, short_record}
+use Rattle.record_reader.proofs.Tables.{long_record, short_record}
 
 -- what follows a number
 
@@ -102,21 +102,3 @@ module _ (b : Bytes) (p pool : ℕ) {d : Bytes} (e : d ≡ take (length b - p) (
           pub head_whole : {t : Content} → Some t ≡ content_of p pool (whole (data_reader c x)) → Some (record { kind = t.kind; next = p + 3 + m; fits = t.fits }) ≡ head_at b p pool
           unfolding with_next
           head_whole g = rw (with_data, ← g)
-
--- the data's reader, by the code
-
-module _ (p pool c : ℕ) (x : Bytes) {r : Option Content} where
-  pub by_code : (k : ℕ) → c ≡ k → r ≡ content_of p pool (whole (dispatch data_table k x)) → r ≡ content_of p pool (whole (data_reader c x))
-  unfolding data_reader
-  by_code k e f = rw e f
-
-pub other_code : (p pool c : ℕ) (x : Bytes) →
-    (((((((((((Unit {0} × (c ≡ 0x81 → ⊥)) × (c ≡ 0x87 → ⊥)) × (c ≡ 0x88 → ⊥)) × (c ≡ 0x8C → ⊥)) × (c ≡ 0x8E → ⊥)) × (c ≡ 0x96 → ⊥)) × (c ≡ 0x99 → ⊥)) × (c ≡ 0x9B → ⊥))
-    × (c ≡ 0x9D → ⊥)) × (c ≡ 0x9E → ⊥)) × (c ≡ 0x9F → ⊥)) →
-    None ≡ content_of p pool (whole (data_reader c x))
-unfolding data_reader
-other_code p pool c x h =
-    let m = dispatch_none data_table c x
-    (h.0.1 also h.0.0.0.0.0.0.0.0.0.0.1 also h.0.0.0.0.0.0.0.0.0.1 also h.0.0.0.0.0.0.0.0.1 also h.0.0.0.0.0.0.0.1 also
-    h.0.0.0.0.0.0.1 also h.0.0.0.0.0.1 also h.0.0.0.0.1 also h.0.0.0.1 also h.0.0.1 also h.1 also tt) in
-    rw m

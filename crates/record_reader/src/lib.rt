@@ -80,6 +80,7 @@ fn is_short(code: u8) -> bool
 }
 
 // The record at `at` with this code and the data `d`; `pool` is the pool's count of strings.
+#[tactic(auto, unfolding(crate::specs::Shape::data_reader))]
 fn with_data(d: &[u8], code: u8, at: usize, pool: usize) -> Option<Content>
     requires { at + 3 < 2 ^ 64 }
     ensures { result ≡ content_of at pool (whole (data_reader code d.now)) }
@@ -91,9 +92,8 @@ fn with_data(d: &[u8], code: u8, at: usize, pool: usize) -> Option<Content>
         codes::GOTO_LABEL => label(d, at),
         codes::DEFINE_FUNCTION2 => function2(d),
         codes::PUSH => push(d, pool),
-        codes::JUMP => branch(d, true),
+        codes::JUMP | codes::IF => branch(d, code),
         codes::DEFINE_FUNCTION => function(d),
-        codes::IF => branch(d, false),
         codes::CALL => call(d),
         codes::GOTO_FRAME2 => play(d),
         _ => None,

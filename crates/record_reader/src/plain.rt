@@ -1,7 +1,9 @@
 // Records with few data, which are all of `d`.
 ghost use Rattle.std.specs.Prelude.{◌≡◌, ◌+◌, ◌<◌, ◌^◌, ℕ};
+ghost use Rattle.pcode.specs.Pcode.{Branching};
 ghost use Rattle.action_format.specs.Decode.{read_pool, read_branch};
-ghost use Rattle.record_reader.specs.Shape.{read_call, read_frame, read_register, read_label, read_play, branching_of};
+ghost use Rattle.list_slice.specs.Entry.{branch_code};
+ghost use Rattle.record_reader.specs.Shape.{read_call, read_frame, read_register, read_label, read_play};
 ghost use Rattle.record_reader.specs.Steps.{whole, content_of};
 
 use crate::parts::{Name, byte, flag, many, string, whole, word};
@@ -58,16 +60,16 @@ pub fn label(d: &[u8], at: usize) -> Option<Content>
     Some(plain(codes::GOTO_LABEL, at + 3, fits))
 }
 
-// A Jump, or else an If.
-pub fn branch(d: &[u8], jump: bool) -> Option<Content>
-    ensures { (at pool : ℕ) → result ≡ content_of at pool (whole (read_branch (branching_of jump) d.now)) }
+// A Jump or an If, as its code says.
+pub fn branch(d: &[u8], code: u8) -> Option<Content>
+    ensures { (b : Branching) (at pool : ℕ) → code ≡ branch_code b → result ≡ content_of at pool (whole (read_branch b d.now)) }
 {
     let offset = usize::from(whole(word(d))?);
-    let code = u32::from(if jump { codes::JUMP } else { codes::IF });
-    Some(Content {
-        kind: Kind::Branch { code, offset },
-        fits: true,
-    })
+    let kind = Kind::Branch {
+        code: u32::from(code),
+        offset,
+    };
+    Some(Content { kind, fits: true })
 }
 
 pub fn pool_record(d: &[u8]) -> Option<Content>

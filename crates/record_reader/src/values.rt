@@ -67,7 +67,7 @@ fn string_value(d: &[u8], at: usize) -> Option<(PushedValue, &[u8])>
     ))
 }
 
-// The value of a type, at `at`.
+// The value of a type, at `at`: a string, null, undefined, a register, a boolean, a float, an integer, or a constant's index in one byte or two.
 fn typed(kind: u8, d: &[u8], at: usize, pool: usize) -> Option<(PushedValue, &[u8])>
     ensures { taken result ≡ pushed_of at pool (dispatch value_readers kind d.now) }
 {

@@ -1,12 +1,12 @@
 -- The passes over all lists, in the order in which they finish.
-use Rattle.std.specs.Prelude.{ℕ, zero, suc, ◌+◌, ◌-◌, ◌≤◌, ◌<◌, ◌≡◌, List, [], ◌∷◌, Bool, true, false, cond, ◌&&◌, eqb, length, get_or, Result, Ok, Err}
+use Rattle.std.specs.Prelude.{ℕ, zero, suc, ◌+◌, ◌-◌, ◌≤◌, ◌<◌, ◌≡◌, List, [], ◌∷◌, Bool, true, false, cond, ◌&&◌, eqb, length, get_or, Option, Some, None, Result, Ok, Err}
 use Rattle.refusal.specs.declared.Refusal.{Refusal}
 use Rattle.refusal.specs.declared.Refusal.TheVariants.{ZeroByte, TooLong, TooFar}
 use Rattle.pcode.specs.Pcode.{Branching, Item}
 use Rattle.action_format.specs.ByPlace.{actions}
 use Rattle.action_format.specs.Offsets.{sum, position, offset}
 use Rattle.list_slice.specs.Entry.{Piece}
-use Rattle.resolver.specs.declared.passes.Step.{Step}
+use Rattle.resolver.specs.declared.passes.Body.{Body}
 use Rattle.resolver.specs.Walk.{count_of, end_of, start_of, piece_at, walked}
 use Rattle.resolver.specs.Sizes.{measures, all_short, all_clear}
 use Rattle.resolver.specs.Steps.{Standing, spots, all_near_in, Offsets}
@@ -48,16 +48,16 @@ module _ {F w : List ℕ} (s : Sized F w) where
   nearLists zero = true
   nearLists (suc j) = near_list j && nearLists j
 
-  -- one list: refused with 10, or its tables
+  -- one list: none if a record or its body is too long, or its tables
   pub record ListDone (j : ℕ) (before offsets : List ℕ) (bytes : ℕ) (near : Bool) : Type 0 where
     pub bytes_are : bytes ≡ s.body (number_at (count_of w) j)
     pub short : all_short s.body (walked_at F w j) ≡ true
     pub near_is : near ≡ near_list j
     pub offsets_are : Offsets F w (start_of w j) (end_of w j) (sizes_at j) (s.place j) before offsets
 
-  pub record Tried (j : ℕ) (before offsets : List ℕ) (r : Step) : Type 0 where
-    pub good : r.short ≡ true → ListDone j before offsets r.bytes r.near
-    pub bad : r.short ≡ false → all_short s.body (walked_at F w j) ≡ false
+  pub record Tried (j : ℕ) (before offsets : List ℕ) (r : Option Body) : Type 0 where
+    pub good : (b : Body) → r ≡ Some b → ListDone j before offsets b.bytes b.near
+    pub bad : r ≡ None → all_short s.body (walked_at F w j) ≡ false
 
   -- sizes of the lists before j
   abbrev pub SizesTo : ℕ → List ℕ → Type 0

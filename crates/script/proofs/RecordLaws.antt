@@ -1,24 +1,24 @@
 -- The rules of one record: what each step of the walks over its children gives.
-use Prim.Native.Nat.{ℕ, zero, suc, ◌+◌, ◌-◌, ◌/◌, ◌%◌, ◌≤◌, ◌<◌}
-use mathlib.Core.Path.{◌≡◌, refl, sym, ap, ◌∙◌}
+use Prim.Native.Nat.{ℕ, zero, suc, ◌+◌, ◌-◌, ◌≤◌, ◌<◌}
+use mathlib.Core.Path.{◌≡◌, refl, ap, ◌∙◌}
 use mathlib.Core.List.{List, [], ◌∷◌, ◌++◌, reverse}
 use Rattle.std.proofs.lemmas.List.{reverse-append}
-use mathlib.Core.Bool.{Bool, true, false, cond, ◌&&◌, ◌||◌}
-use Rattle.std.specs.Prelude.{◌⊎◌, Option, Some, None}
+use mathlib.Core.Bool.{Bool, true, false, cond, ◌&&◌}
+use Rattle.std.specs.Prelude.{◌⊎◌, Some, None}
 use Rattle.std.proofs.Common.{inl, inr}
 use lib.ListN.{length}
 use denote.Ref.{Bor}
 use lib.Dec.{eqb, ltb, leb, eqb-suc-zero}
 use native.Mathlib.Nat.{zero-add}
 use native.Mathlib.Omega.{arith}
-use borrow.Author.Tests.{eq-eqb, ne_eqb, le-leb, lt-leb}
+use borrow.Author.Tests.{le-leb, lt-leb}
 use Rattle.hir.specs.Tree.{Forest}
 use Rattle.script_records.specs.declared.layout.Row.{Row}
 use Rattle.script_records.specs.declared.part.Part.{Part}
 use Rattle.script_records.specs.declared.part.Tree.{Tree}
 use Rattle.script_records.specs.Layout.{Words, words_of, row_in, span_at, forest}
 use Rattle.script_records.specs.Parts.{trees_in, last_tree}
-use Rattle.script.specs.Forms.{Scalar, limit, Class, Sort, is_class, is_list, is_sort, all_of, matches, trees, fits, form_of}
+use Rattle.script.specs.Forms.{Scalar, limit, Class, Sort, is_class, is_sort, all_of, matches, trees, fits, form_of}
 use Rattle.script.specs.declared.forms.Form.TheVariants as code
 use Rattle.script.specs.declared.forms.Form as code_form
 use Rattle.script.specs.FormCode.{form_as}

@@ -208,7 +208,7 @@ fn form_of_kind(kind: Kind, r: Row) -> Form
 }
 
 // The form of a record.
-pub fn form_of(r: Row) -> Form
+pub(crate) fn form_of(r: Row) -> Form
     ensures { form_as result ≡ form_of (words_of r) }
 {
     match Kind::try_from(r.kind) {
@@ -233,7 +233,7 @@ const DEFAULT: u32 = Kind::Default as u32;
 
 impl Class {
     // A kind of the class.
-    pub fn has(self, kind: u32) -> bool
+    pub(crate) fn has(self, kind: u32) -> bool
         ensures { result ≡ is_class self kind }
     {
         match self {
@@ -248,7 +248,7 @@ impl Class {
 
 impl Scalar {
     // The scalar is below this, in a file of so many strings.
-    pub fn limit(self, strings: u32) -> usize
+    pub(crate) fn limit(self, strings: u32) -> usize
         ensures { result ≡ limit strings self }
     {
         match self {

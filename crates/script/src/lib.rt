@@ -10,7 +10,7 @@ use crate::rules::{ends_hold, kinds_supported, records_hold, strings_hold, too_d
 use refusal::Refusal;
 use script_records::layout::{ScriptFile, areas_hold};
 
-mod forms;
+pub mod forms;
 mod record_rules;
 mod rules;
 

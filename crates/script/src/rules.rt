@@ -6,6 +6,7 @@ ghost use Rattle.script.specs.Rules.{ends_hold, records_hold, root_holds, all_ut
 
 use crate::forms::Class;
 use crate::record_rules::{is_list, record_holds};
+use arrayvec::ArrayVec;
 use decode::is_supported;
 use script_records::layout::ScriptFile;
 use script_records::part::Part;
@@ -74,23 +75,20 @@ pub fn kinds_supported(script: &ScriptFile) -> bool
 pub fn too_deep(script: &ScriptFile) -> bool
     ensures { result ≡ ltb max_depth (depth (tree_in script.now.bytes.now script.now.layout)) }
 {
-    let mut starts = [0usize; 129];
-    let mut ancestors: usize = 1;
+    let mut starts = ArrayVec::<usize, 129>::new();
+    starts.push(0);
     let mut i = script.layout.count as usize;
-    while i != 0 {
-        let start = starts[ancestors - 1];
-        if start == i {
-            ancestors -= 1;
-        } else {
-            if ancestors == 129 {
+    while let Some(start) = starts.pop() {
+        if start != i {
+            if starts.len() == 128 {
                 return true;
             }
             let t = script.last_tree(Part {
                 end: i,
                 n: i - start,
             });
-            starts[ancestors] = t.before.end;
-            ancestors += 1;
+            starts.push(start);
+            starts.push(t.before.end);
             i -= 1;
         }
     }

@@ -1,15 +1,15 @@
 -- The kinds and their numbers.
 use Prim.Native.Nat.{ℕ, zero, suc, ◌+◌, ◌≤◌, ◌<◌}
 use mathlib.Core.Path.{◌≡◌, refl, sym, ap, ◌∙◌}
-use mathlib.Core.Bool.{Bool, true, false, ◌&&◌, ◌||◌}
+use mathlib.Core.Bool.{Bool, true, ◌&&◌, ◌||◌}
 use mathlib.Core.List.{List, [], ◌∷◌}
 use native.Mathlib.Omega.{arith}
 use lib.Dec.{eqb, leb, ltb}
-use lib.ListN.{length, get_or, get_or-eq_default}
+use lib.ListN.{length, get_or}
 use borrow.Author.Tests.{eqb-true, ltb-true, leb-true}
 use Rattle.std.proofs.lemmas.Bool.{and_parts, or_cases}
 use Rattle.std.proofs.Common.{inl, inr}
-use Rattle.std.specs.Prelude.{◌⊎◌, Option, Some, None, Result, Ok, Err, ok_or}
+use Rattle.std.specs.Prelude.{◌⊎◌, Option, Some, None, Ok, Err, ok_or}
 use Rattle.script_records.specs.declared.kind.Kind.{Kind}
 use Rattle.script_records.specs.declared.kind.Kind.TheVariants as kind
 use Rattle.script_records.specs.declared.kind.UnknownKind.{UnknownKind}
@@ -136,26 +136,26 @@ unfolding gaps
 gap_in [] i n t e = inr (omega arith)
 gap_in (None ∷ ks) i zero t e = inl (ap between (omega arith) ∙ (and_parts (between i) (gaps ks (suc i)) t).0)
 gap_in (None ∷ ks) i (suc n) t e = elim (gap_in ks (suc i) n (and_parts (between i) (gaps ks (suc i)) t).1 e) [
-    inl h ↦ inl (ap between (omega arith) ∙ h)
+  | inl h ↦ inl (ap between (omega arith) ∙ h)
   | inr h ↦ inr (omega arith)
-  ]
+]
 gap_in (Some k ∷ ks) i zero t e = cc
 gap_in (Some k ∷ ks) i (suc n) t e = elim (gap_in ks (suc i) n t e) [
-    inl h ↦ inl (ap between (omega arith) ∙ h)
+  | inl h ↦ inl (ap between (omega arith) ∙ h)
   | inr h ↦ inr (omega arith)
-  ]
+]
 
 between_bounds : (n : ℕ) → between n ≡ true → ((16 ≤ n) × (n < 32)) ⊎ ((78 ≤ n) × (n < 96))
 unfolding between
 between_bounds n t = elim (or_cases (leb 16 n && ltb n 32) (leb 78 n && ltb n 96) t) [
-    inl h ↦ let p = and_parts (leb 16 n) (ltb n 32) h in inl (leb-true 16 n p.0, ltb-true n 32 p.1)
+  | inl h ↦ let p = and_parts (leb 16 n) (ltb n 32) h in inl (leb-true 16 n p.0, ltb-true n 32 p.1)
   | inr h ↦ let p = and_parts (leb 78 n) (ltb n 96) h in inr (leb-true 78 n p.0, ltb-true n 96 p.1)
-  ]
+]
 
 -- a word that is no kind
 pub unknown_from : (n : ℕ) {e : UnknownKind} → kind_from n ≡ Err e → ((16 ≤ n) × (n < 32)) ⊎ (((78 ≤ n) × (n < 96)) ⊎ (102 ≤ n))
 unfolding kind_from gaps between
 unknown_from n h = elim (gap_in kinds 0 n refl (missed (get_or kinds n None) _ h)) [
-    inl t ↦ elim (let e : n ≡ n + 0 = omega arith in between_bounds n (ap between e ∙ t)) [ inl low ↦ inl low | inr high ↦ inr (inl high) ]
+  | inl t ↦ elim (let e : n ≡ n + 0 = omega arith in between_bounds n (ap between e ∙ t)) [ inl low ↦ inl low | inr high ↦ inr (inl high) ]
   | inr past ↦ inr (inr past)
-  ]
+]

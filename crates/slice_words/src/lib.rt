@@ -4,7 +4,7 @@
 pub mod code;
 pub mod value;
 
-ghost use Rattle.std.specs.Prelude.{◌≡◌, ◌+◌, ◌*◌, ◌<◌, length};
+ghost use Rattle.std.specs.Prelude.{◌≡◌, ◌+◌, ◌*◌, ◌<◌, ◌≤◌, length};
 ghost use Rattle.script_records.specs.Layout.{layout_of};
 ghost use Rattle.list_slice.specs.File.{text_in};
 ghost use Rattle.slice_words.specs.Words.{entry_in};
@@ -15,6 +15,7 @@ use script_records::layout::ScriptFile;
 
 // Where the list ends and the pool words begin.
 pub const ENDS_AT: usize = 13312;
+
 pub const POOL_AT: usize = 14336;
 
 // The reference of an empty string that comes from no string of the file.
@@ -40,11 +41,12 @@ pub fn entry_at(list: &[u32], e: usize) -> Entry
 }
 
 // The string of a reference.
-#[tactic(auto, unfolding(crate::specs::References::text_at, list_slice::specs::File::text_in))]
+#[tactic(auto, using(crate::proofs::Strings::string_short), unfolding(crate::specs::References::text_at, list_slice::specs::File::text_in))]
 pub fn text<'a>(script: &ScriptFile<'a>, reference: u32) -> &'a [u8]
     ensures by_layout { result.now ≡ text_at script.now.bytes.now script.now.layout reference }
     ensures in_file { script.now.layout ≡ layout_of script.now.bytes.now →
         result.now ≡ text_in script.now.bytes.now reference }
+    ensures short { length result.now ≤ length script.now.bytes.now }
 {
     if reference == NO_STRING {
         return &script.bytes[0..0];

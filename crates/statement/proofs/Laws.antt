@@ -8,6 +8,9 @@ use mathlib.Core.Option.{get_or, none, some}
 use native.Mathlib.Omega.{arith}
 use lib.Dec.{T, leb, ltb, eqb}
 use borrow.Author.Tests.{lt-ltb, ltb-true}
+use lib.IntN.{pos}
+use Rattle.std.specs.Int.{from_bool}
+use Rattle.decode.specs.Numbers.{unsigned}
 use Rattle.hir.specs.Hir.{Str, Rec}
 use Rattle.hir.specs.declared.Affix.{Affix}
 use Rattle.hir.specs.Tree.{Forest}
@@ -265,6 +268,10 @@ both_true false b h = elim h [ ]
 pub number_less : (F : List ℕ) (i : ℕ) → T (names_function F i) → i < (layout_of F).count
 unfolding names_function
 number_less F i h = ltb-true i (layout_of F).count (both_true (ltb i (layout_of F).count) _ h)
+
+pub bit_is : (b : Bool) → unsigned (pos (from_bool b)) ≡ bit b
+bit_is true = refl
+bit_is false = refl
 
 -- `adjust` with a value that is wanted passes its part on to itself with a value that is not
 pub rank_least : (d : Bool) → 3 ≤ cond d 3 4

@@ -30,7 +30,7 @@ use codegen_state::CodeBuilder;
 use constants::push_string;
 use hir::{Affix, BinaryOperator, ExprKind, ForCondition, Record, StatementKind, UnaryOperator};
 use leaves::{
-    assign_value, bit_of, default_label, frame_of, gen_target, has_hoisted, is_case, is_hoisted,
+    assign_value, default_label, frame_of, gen_target, has_hoisted, is_case, is_hoisted,
     is_labelled, jump_to, keeps_old, leaves_none, leaves_value, name_of, negate_float,
     negate_integer, play_if, push_constants, push_count, push_if, read_constant, word_of,
 };
@@ -860,7 +860,7 @@ fn drag(
 {
     let target = t.kid(1);
     let es = t.list(0);
-    let bit = bit_of(lock);
+    let bit = i32::from(lock);
     if es.is_empty() {
         let b1 = push(list, b, PushValue::Integer(0));
         let b2 = push(list, b1, PushValue::Integer(bit));

@@ -11,8 +11,8 @@ loop-left-init c =
 pub returns-then-cur-ne0 : goal.returns-then-cur-ne0
 returns-then-cur-ne0 c = record { script = c.loop-left.invariant.0; args = c.loop-left.invariant.1 }
 
-pub returns-then-tree-ne32 : goal.returns-then-tree-ne32
-returns-then-tree-ne32 c = record { script = c.loop-left.invariant.0; args = c.loop-left.invariant.1 }
+pub returns-then-tree : goal.returns-then-tree
+returns-then-tree c = record { script = c.loop-left.invariant.0; args = c.loop-left.invariant.1 }
 
 pub read_constant-cur-requires : goal.read_constant-cur-requires
 read_constant-cur-requires c =
@@ -21,14 +21,14 @@ read_constant-cur-requires c =
       fine = i.1.fine;
       l_value = c.args.t.now.within.layout;
       file_len_bound = c.args.t.now.within.sound.short;
-      t = args_named i.1 (some_left c.loop-left-test.ensures) (rw i.0 at c.last_tree-tree.ensures) c.if-tree-ne32.false c.constant-c.ensures;
+      t = args_named i.1 (some_left c.loop-left-test.ensures) (rw i.0 at c.last_tree-tree.ensures) c.if-tree.false c.constant-c.ensures;
       named = i.1.named c.requires.named;
     }
 
 pub invariant_of-before : goal.invariant_of-before
 invariant_of-before c =
     let i = c.loop-left.invariant in
-    record { within = (args_constant i.1 (some_left c.loop-left-test.ensures) (rw i.0 at c.last_tree-tree.ensures) c.if-tree-ne32.false c.constant-c.ensures c.read_constant-cur.ensures c.read_constant-cur.auto.list).within }
+    record { within = (args_constant i.1 (some_left c.loop-left-test.ensures) (rw i.0 at c.last_tree-tree.ensures) c.if-tree.false c.constant-c.ensures c.read_constant-cur.ensures c.read_constant-cur.auto.list).within }
 
 pub loop-left-smaller : goal.loop-left-smaller
 loop-left-smaller c =
@@ -41,7 +41,7 @@ loop-left-preserved c =
     let i = c.loop-left.invariant in
     let none = c.without_voids-left-in-loop-left.ensures in (
       none.script,
-      args_without (args_constant i.1 (some_left c.loop-left-test.ensures) (rw i.0 at c.last_tree-tree.ensures) c.if-tree-ne32.false c.constant-c.ensures c.read_constant-cur.ensures c.read_constant-cur.auto.list) none.unchanged,
+      args_without (args_constant i.1 (some_left c.loop-left-test.ensures) (rw i.0 at c.last_tree-tree.ensures) c.if-tree.false c.constant-c.ensures c.read_constant-cur.ensures c.read_constant-cur.auto.list) none.unchanged,
     )
 
 pub returns : goal.returns

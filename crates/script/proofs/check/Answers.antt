@@ -1,7 +1,4 @@
 -- `check` meets its contract: the refusals in document 01's order.
-use mathlib.Core.Path.{◌≡◌, refl, sym}
-use mathlib.Core.Bool.{true}
-use Rattle.script.specs.Rules.{rules_hold}
 use Rattle.script.proofs.RuleLaws.{check_long, check_strings, check_kinds, check_deep, check_accepted}
 use Rattle.script.proofs.check.Goals as goal
 

@@ -22,7 +22,7 @@ use Rattle.builder.proofs.Body.{begun_fine, begun_named, ready, function_done}
 use Rattle.access.proofs.Texts.{text_is}
 use Rattle.rows.specs.Rows.{loop_of}
 use Rattle.leaves.proofs.Args.{some_left, expr_at, args_again, args_less, args_stopped, args_done}
-use Rattle.statement.proofs.Laws.{rec_is, element_at, value_at, value_live, no_expr, statement_at, no_statement, untested, access_at, literal_of, none_at, labels_counted, labels_less, default_less, switching, no_labels, some_labels, function_at, function_size, literal_named, field_live, number_less, rank_least, rank_most, rank_kept}
+use Rattle.statement.proofs.Laws.{rec_is, element_at, value_at, value_live, no_expr, statement_at, no_statement, untested, access_at, literal_of, none_at, labels_counted, labels_less, default_less, switching, no_labels, some_labels, function_at, function_size, literal_named, field_live, number_less, bit_is, rank_least, rank_most, rank_kept}
 use Rattle.statement.proofs.Lists.{pop_holds, pop_top, pop_inside, pop_fits, pop_below, pop_few, pop_again, pop_stopped, pop_done, element_few}
 use mir.ValLaws.{to_z-of_z}
 use mir.Syntax.{w32}
@@ -132,7 +132,7 @@ pub drag-shape_of-scratch-then-is_empty : goal.drag-shape_of-scratch-then-is_emp
 drag-shape_of-scratch-then-is_empty t c = c.gen_expr-b3.auto.scratch
 
 pub drag-returns-then-is_empty : goal.drag-returns-then-is_empty
-drag-returns-then-is_empty t c = drag_arm c.args.t.now.script.layout c.args.t.now.part c.args.lock c.kid-target.ensures.kid c.list-es.ensures.list (no_trees c.if-is_empty.ensures) (c.push-b1.ensures (file_of c.args.t.now) tt) (rw (to_z-of_z w32 _ (record { sfits = c.bit_of-bit.type_inv }), c.bit_of-bit.ensures) at (c.push-b2.ensures (file_of c.args.t.now) tt)) (rw c.kid-target.ensures.script at c.gen_expr-b3.ensures) (c.action_down.ensures (file_of c.args.t.now))
+drag-returns-then-is_empty t c = drag_arm c.args.t.now.script.layout c.args.t.now.part c.args.lock c.kid-target.ensures.kid c.list-es.ensures.list (no_trees c.if-is_empty.ensures) (c.push-b1.ensures (file_of c.args.t.now) tt) (rw (to_z-of_z w32 _ (record { sfits = c.from-bit.type_inv }), c.from-bit.ensures, bit_is c.args.lock) at (c.push-b2.ensures (file_of c.args.t.now) tt)) (rw c.kid-target.ensures.script at c.gen_expr-b3.ensures) (c.action_down.ensures (file_of c.args.t.now))
 
 pub drag-each-b1-requires : goal.drag-each-b1-requires
 drag-each-b1-requires t c = (omega (arith, c.decreases, c.requires.fits, c.kid-target.ensures.kid.fewer, c.list-es.ensures.list.fewer), (record { fits = omega (arith, c.decreases, c.requires.fits, c.kid-target.ensures.kid.fewer, c.list-es.ensures.list.fewer); fine = c.requires.fine; named = rw c.list-es.ensures.script c.requires.named }, omega (arith, c.decreases, c.requires.fits, c.kid-target.ensures.kid.fewer, c.list-es.ensures.list.fewer, c.args.t.now.within.known, c.args.t.now.within.sound.few, c.args.t.now.within.inside)))
@@ -156,7 +156,7 @@ pub drag-shape_of-scratch : goal.drag-shape_of-scratch
 drag-shape_of-scratch t c = c.gen_expr-b4.auto.scratch ∙ c.each-b1.auto.scratch
 
 pub drag-returns : goal.drag-returns
-drag-returns t c = drag_within_arm c.args.t.now.script.layout c.args.t.now.part (loop_of c.no_loop-idle.result) c.args.lock c.kid-target.ensures.kid c.list-es.ensures.list (some_left c.if-is_empty.ensures) (rw c.list-es.ensures.script at c.each-b1.ensures) (c.push-b2-2.ensures (file_of c.args.t.now) tt) (rw (to_z-of_z w32 _ (record { sfits = c.bit_of-bit.type_inv }), c.bit_of-bit.ensures) at (c.push-b3.ensures (file_of c.args.t.now) tt)) (rw c.kid-target.ensures.script at c.gen_expr-b4.ensures) (c.action_down-2.ensures (file_of c.args.t.now))
+drag-returns t c = drag_within_arm c.args.t.now.script.layout c.args.t.now.part (loop_of c.no_loop-idle.result) c.args.lock c.kid-target.ensures.kid c.list-es.ensures.list (some_left c.if-is_empty.ensures) (rw c.list-es.ensures.script at c.each-b1.ensures) (c.push-b2-2.ensures (file_of c.args.t.now) tt) (rw (to_z-of_z w32 _ (record { sfits = c.from-bit.type_inv }), c.from-bit.ensures, bit_is c.args.lock) at (c.push-b3.ensures (file_of c.args.t.now) tt)) (rw c.kid-target.ensures.script at c.gen_expr-b4.ensures) (c.action_down-2.ensures (file_of c.args.t.now))
 
 pub each-returns-then-b-ne0 : goal.each-returns-then-b-ne0
 each-returns-then-b-ne0 t c = stays c.if-b-ne0.true c.requires.walk.fine

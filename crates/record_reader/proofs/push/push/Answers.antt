@@ -1,15 +1,9 @@
 use Rattle.std.proofs.Common.{arith}
-use Rattle.record_reader.proofs.Pushes.{values_start, values_more, values_fail, values_content, value_was}
+use Rattle.record_reader.proofs.Pushes.{values_more, values_fail, values_content, value_was}
 use Rattle.record_reader.proofs.push.push.Goals as goal
-
-pub loop-next-init : goal.loop-next-init
-loop-next-init c = values_start c.args.d.now c.args.pool
 
 pub returns-in_err-v : goal.returns-in_err-v
 returns-in_err-v c = λ at. rw c.from_residual.ensures (values_fail c.loop-next.invariant c.loop-next-test.true c.in_err-v.ensures at)
-
-pub overflow_add-count : goal.overflow_add-count
-overflow_add-count c = omega (arith, c.loop-next.invariant.from, c.loop-next-test.true)
 
 pub loop-next-smaller : goal.loop-next-smaller
 loop-next-smaller c = omega (arith, (value_was c.args.d.now c.loop-next.next c.args.pool c.loop-next.invariant.to c.in_ok-v.ensures).later)

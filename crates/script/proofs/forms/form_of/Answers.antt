@@ -2,7 +2,6 @@
 use mathlib.Core.Path.{sym, ◌∙◌}
 use Rattle.script_records.specs.Layout.{words_of}
 use Rattle.script_records.proofs.KindLaws.{number_from}
-use Rattle.script.specs.Forms.{form_of}
 use Rattle.script.proofs.FormLaws.{form_unknown}
 use Rattle.script.proofs.forms.form_of.Goals as goal
 

@@ -1,5 +1,4 @@
 -- `record_holds` meets its contract.
-use native.Mathlib.Omega.{arith}
 use Rattle.script_records.specs.Layout.{rows_of}
 use Rattle.script.proofs.RecordLaws.{record_large, record_broken, record_count_lem, record_form}
 use Rattle.std.proofs.Common.{inl, inr}

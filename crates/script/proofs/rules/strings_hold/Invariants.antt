@@ -1,5 +1,5 @@
 -- The loop's invariant: what is left decides as the whole table does.
-use Prim.Native.Nat.{◌≤◌, ◌-◌}
+use Prim.Native.Nat.{◌-◌}
 use mathlib.Core.Path.{◌≡◌}
 use Rattle.script_records.specs.Layout.{strings_from, strings_of}
 use Rattle.script.specs.Rules.{all_utf8}
