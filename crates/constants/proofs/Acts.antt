@@ -5,7 +5,8 @@ use Rattle.lowering.specs.Builder.{M}
 use Rattle.codegen_state.specs.Index.{Indexed}
 use Rattle.codegen_state.specs.Does.{Does}
 use Rattle.builder.specs.declared.builder.CodeBuilder.{CodeBuilder}
-use Rattle.builder.specs.Runs.{SameList}
+use Rattle.builder.specs.Runs.{SameList, Keeps}
+use Rattle.builder.proofs.Runs.{index_stays}
 use Rattle.constants.specs.declared.context.ScriptContext.{ScriptContext}
 use Rattle.constants.specs.Acts.{Acts}
 
@@ -13,3 +14,7 @@ use Rattle.constants.specs.Acts.{Acts}
 pub acts : {A : Type 0} {m : M A} {a : A} {c : ScriptContext} {b : CodeBuilder} {l : c.script.layout ≡ layout_of c.script.bytes.now} {x : Indexed c.script.bytes.now b.state.constants b.list.now} →
     SameList c.builder b → Does c.script.bytes.now m c.builder.state c.builder.list.now a b.state b.list.now → Acts m c a (record { script = c.script; builder = b; laid_out = l; indexed = x })
 acts s d = record { script = refl; same_list = s; does = d }
+
+-- the facts of a context after steps of its builder alone
+pub in_context : (c : ScriptContext) {b : CodeBuilder} → Keeps c.builder b → record { laid_out : c.script.layout ≡ layout_of c.script.bytes.now; indexed : Indexed c.script.bytes.now b.state.constants b.list.now }
+in_context c k = record { laid_out = c.laid_out; indexed = index_stays k.pool c.indexed }

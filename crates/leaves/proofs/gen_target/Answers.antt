@@ -1,11 +1,11 @@
 use mathlib.Core.List.{[]}
-use Rattle.builder.proofs.Runs.{index_stays, keeps_then, same_list_then}
-use Rattle.constants.proofs.Acts.{acts}
+use Rattle.builder.proofs.Runs.{keeps_then, same_list_then}
+use Rattle.constants.proofs.Acts.{acts, in_context}
 use Rattle.leaves.proofs.Constructs.{declared, variable, register}
 use Rattle.leaves.proofs.gen_target.Goals as goal
 
 pub invariant_of-context : goal.invariant_of-context
-invariant_of-context c = record { laid_out = c.push_string.new.self.laid_out; indexed = index_stays (keeps_then c.push.ensures.keeps (c.action.ensures []).keeps).pool c.push_string.new.self.indexed }
+invariant_of-context c = in_context c.push_string.new.self (keeps_then c.push.ensures.keeps (c.action.ensures []).keeps)
 
 pub returns-then-declare : goal.returns-then-declare
 returns-then-declare c =
@@ -18,10 +18,10 @@ returns-then-declare c =
     }
 
 pub invariant_of-context-in-Variable : goal.invariant_of-context-in-Variable
-invariant_of-context-in-Variable c = record { laid_out = c.for_identifier-access.new.context.laid_out; indexed = index_stays (keeps_then c.push-in-Variable.ensures.keeps (c.set_value.ensures []).keeps).pool c.for_identifier-access.new.context.indexed }
+invariant_of-context-in-Variable c = in_context c.for_identifier-access.new.context (keeps_then c.push-in-Variable.ensures.keeps (c.set_value.ensures []).keeps)
 
 pub invariant_of-context-in-Register : goal.invariant_of-context-in-Register
-invariant_of-context-in-Register c = record { laid_out = c.args.context.now.laid_out; indexed = index_stays (keeps_then c.push-in-Register.ensures.keeps (keeps_then (c.store_register.ensures []).keeps (c.action-in-Register.ensures []).keeps)).pool c.args.context.now.indexed }
+invariant_of-context-in-Register c = in_context c.args.context.now (keeps_then c.push-in-Register.ensures.keeps (keeps_then (c.store_register.ensures []).keeps (c.action-in-Register.ensures []).keeps))
 
 pub returns-else-declare : goal.returns-else-declare
 returns-else-declare c =

@@ -2,25 +2,25 @@ use mir.Syntax.{w32}
 use mir.ValLaws.{to_z-of_z}
 use borrow.Author.Rules.{rules}
 use mathlib.Core.List.{[]}
-use Rattle.builder.proofs.Runs.{index_stays, same_list_then}
-use Rattle.constants.proofs.Acts.{acts}
+use Rattle.builder.proofs.Runs.{same_list_then}
+use Rattle.constants.proofs.Acts.{acts, in_context}
 use Rattle.leaves.proofs.Constants.{string, identifier, float, integer, truth, register}
 use Rattle.leaves.proofs.read_constant.Goals as goal
 
 pub invariant_of-context : goal.invariant_of-context
-invariant_of-context c = record { laid_out = c.for_identifier-access.new.context.laid_out; indexed = index_stays (c.get_value.ensures []).keeps.pool c.for_identifier-access.new.context.indexed }
+invariant_of-context c = in_context c.for_identifier-access.new.context (c.get_value.ensures []).keeps
 
 pub invariant_of-context-in-Float : goal.invariant_of-context-in-Float
-invariant_of-context-in-Float c = record { laid_out = c.args.context.now.laid_out; indexed = index_stays c.push.ensures.keeps.pool c.args.context.now.indexed }
+invariant_of-context-in-Float c = in_context c.args.context.now c.push.ensures.keeps
 
 pub invariant_of-context-in-Integer : goal.invariant_of-context-in-Integer
-invariant_of-context-in-Integer c = record { laid_out = c.args.context.now.laid_out; indexed = index_stays c.push-in-Integer.ensures.keeps.pool c.args.context.now.indexed }
+invariant_of-context-in-Integer c = in_context c.args.context.now c.push-in-Integer.ensures.keeps
 
 pub invariant_of-context-in-Boolean : goal.invariant_of-context-in-Boolean
-invariant_of-context-in-Boolean c = record { laid_out = c.args.context.now.laid_out; indexed = index_stays c.push-in-Boolean.ensures.keeps.pool c.args.context.now.indexed }
+invariant_of-context-in-Boolean c = in_context c.args.context.now c.push-in-Boolean.ensures.keeps
 
 pub invariant_of-context-in-Register : goal.invariant_of-context-in-Register
-invariant_of-context-in-Register c = record { laid_out = c.args.context.now.laid_out; indexed = index_stays c.push-in-Register.ensures.keeps.pool c.args.context.now.indexed }
+invariant_of-context-in-Register c = in_context c.args.context.now c.push-in-Register.ensures.keeps
 
 pub returns-in-String : goal.returns-in-String
 returns-in-String c = let a = c.push_string.ensures (rw c.in-String.is at c.requires.t) in record { script = a.script; same_list = a.same_list; does = string c.args.context.now.script.bytes.now c.in-String.is c.requires.file_len_bound c.requires.t (λ t. a.does) }

@@ -1,13 +1,14 @@
 use mir.Syntax.{w32}
 use mir.ValLaws.{to_z-of_z}
 use borrow.Author.Rules.{rules}
-use Rattle.builder.proofs.Runs.{index_stays, same_list_then}
+use Rattle.constants.proofs.Acts.{in_context}
+use Rattle.builder.proofs.Runs.{same_list_then}
 use Rattle.access.proofs.Accesses.{property, no_property}
 use Rattle.access.proofs.Texts.{cast_back, no_text_named}
 use Rattle.access.proofs.Access.for_identifier.Goals as goal
 
 pub invariant_of-context : goal.invariant_of-context
-invariant_of-context c = record { laid_out = c.push_string.new.self.laid_out; indexed = index_stays c.push.ensures.keeps.pool c.push_string.new.self.indexed }
+invariant_of-context c = in_context c.push_string.new.self c.push.ensures.keeps
 
 pub returns-in-Some : goal.returns-in-Some
 returns-in-Some c = λ t. let a = c.push_string.ensures (no_text_named _) in record {
