@@ -45,7 +45,7 @@ pub fn grow(
 }
 
 // A mark more, and the word of its label says so.
-pub fn grow_marked(list: &mut [u32], state: &mut BuilderState, label: u32)
+pub(crate) fn grow_marked(list: &mut [u32], state: &mut BuilderState, label: u32)
     requires fine { Fine state.old list.old }
     requires low_lt_top { state.old.low < state.old.top }
     requires label_bound { label < state.old.labels }
@@ -58,7 +58,7 @@ pub fn grow_marked(list: &mut [u32], state: &mut BuilderState, label: u32)
 
 // A value's type number and its two words.
 #[derive(Clone, Copy)]
-pub struct ValueWords {
+pub(crate) struct ValueWords {
     pub kind: u32,
     pub first: u32,
     pub second: u32,
@@ -76,7 +76,7 @@ impl ValueWords {
     }
 }
 
-pub fn value_words(v: PushValue) -> ValueWords
+pub(crate) fn value_words(v: PushValue) -> ValueWords
     ensures { IsValue v result }
 {
     match v {
