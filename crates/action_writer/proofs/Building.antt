@@ -16,7 +16,7 @@ use Rattle.byte_writer.proofs.Writes.{written_long, wrote_none, wrote_then, writ
 use Rattle.byte_writer.proofs.Frames.{frame_length, framed_length}
 use Rattle.resolver.specs.Walk.{start_of, end_of}
 use Rattle.action_writer.specs.Bodies.{body_at, items_from, bytes_of}
-use Rattle.action_writer.specs.Steps.{Joined, Joins, an-action, a-first-value, a-later-value, sort_of, OpenIn, Marks, Defines, Acts, Begins, Continues, Step, WritableList}
+use Rattle.action_writer.specs.Steps.{Joined, Joins, an-action, a-first-value, a-later-value, sort_of, OpenIn, Defines, Acts, Begins, Continues, Step, WritableList}
 
 -- a value written, and the length of the record that began there
 pub later_joins : {w w₁ w₂ : Writer} {begun : ℕ} {v : Bytes} → Writes w v w₁ → Frames w₁ begun 0x96 w₂ → Joins w begun v w₂
@@ -70,9 +70,6 @@ module _ {F : List ℕ} {l : Layout} {w sizes offsets : List ℕ} {j : ℕ} (s :
   pub building_start : Building F l w sizes offsets j o at o (end_of w j) at at
   building_start = record { low = s.order; high = omega arith; wrote = rw s.none (wrote_none o at); opened = s.start at at }
 
-  pub building_done : {o' : List ℕ} {i next begun : ℕ} → Building F l w sizes offsets j o at o' i next begun → i ≡ start_of w j → Wrote o at (body_at F w j) next o'
-  building_done b e = rw (s.body, ← e) b.wrote
-
   module _ (room : Room o at (body_at F w j)) {o' : List ℕ} {i next begun : ℕ} (b : Building F l w sizes offsets j o at o' i next begun) (q : start_of w j < i) where
     abbrev e : ℕ
     e = i - 1
@@ -108,11 +105,6 @@ module _ {F : List ℕ} {l : Layout} {w sizes offsets : List ℕ} {j : ℕ} (s :
 
     pub in_table : e < 4096
     in_table = omega (arith, high, s.cap)
-
-    pub mark_next : get_or w (e * 3) 0 ≡ 257 → Building F l w sizes offsets j o at o' e next begun
-    mark_next c =
-        let m : Marks F l w sizes offsets j e = rw c at step in
-        record { low = low; high = omega (arith, high); wrote = rw m.adds given; opened = m.free at begun }
 
     module _ (c : get_or w (e * 3) 0 ≡ 256) where
       pub defines : Defines F l w sizes offsets j e

@@ -198,7 +198,7 @@ module _ {F w sizes : List ℕ} {from end i : ℕ} {k : Walk} {starts : List ℕ
   walk_room = record { actions = omega (arith, v.few, v.high, s.cap); bytes = omega (arith, v.most, v.high, s.cap); last = v.last }
 
   module _ (go_on : from < i) where
-    pub walk_known : Known F w (i - 1)
+    walk_known : Known F w (i - 1)
     walk_known = s.known (i - 1) (omega (arith, v.low)) (omega (arith, v.low, v.high))
 
     abbrev is : List Item
@@ -293,7 +293,7 @@ unfolding all_clear
 clear_start {F} {w} {from} {end} s = record { low = s.order; high = omega arith; is = rw (walked_none F w end) }
 
 module _ {F w : List ℕ} {from end i : ℕ} {clear : Bool} (s : Standing F w from end) (v : ClearInv F w from end i clear) where
-  pub clear_known : from < i → Known F w (i - 1)
+  clear_known : from < i → Known F w (i - 1)
   clear_known z = s.known (i - 1) (omega (arith, v.low)) (omega (arith, v.low, v.high))
 
   pub clear_again : (z : from < i) {d : Data} → d ≡ entry_data F w (entry_at w (i - 1)) → ClearInv F w from end (i - 1) (d.clear && clear)
@@ -303,9 +303,6 @@ module _ {F w : List ℕ} {from end i : ℕ} {clear : Bool} (s : Standing F w fr
     is = rw ((entry_piece F w (clear_known z) e).1, v.is) (sym (ap all_clear (walked_more F w i end (omega (arith, v.low)) v.high)
         ∙ clear_law (references_in F w) (piece_at w (i - 1)) (walked F w i (end - i)) (fine_next s i (omega (arith, v.low)) v.high)));
   }
-
-  pub clear_done : i ≡ from → clear ≡ all_clear (walked F w from (end - from))
-  clear_done z = v.is ∙ ap (λ (j : ℕ). all_clear (walked F w j (end - j))) z
 
 -- the marks
 
@@ -410,7 +407,3 @@ mark_again {w} {from} {end} {i} {p} {places} v z q {n} e =
 pub mark_done : {w : List ℕ} {from end i p : ℕ} {places : List ℕ} → MarkInv w from end i p places → i ≡ from → (F : List ℕ) → Standing F w from end →
     Placed (walked F w from (end - from)) places
 mark_done {w} {from} {end} {i} {p} {places} v z F s = subst (λ (j : ℕ). Placed (walked F w j (end - j)) places) z (v.at F s).1
-
-pub walk_long : {F w sizes : List ℕ} {from end i : ℕ} {k : Walk} {starts : List ℕ} → WalkInv F w sizes from end i k starts → {starts' : List ℕ} → starts' ≡ set starts k.actions k.bytes →
-    length starts' ≡ 4097
-walk_long {k = k} {starts} v e = ap length e ∙ length-set starts k.actions k.bytes ∙ v.long
