@@ -17,15 +17,19 @@ use Rattle.action_format.proofs.Tests.{All}
 use Rattle.list_slice.specs.Entry.{Piece, Null, Undefined, Boolean, String, Register, Float, Integer, Constant, value, Entry, entry_of}
 use Rattle.list_slice.specs.Words.{entry_at, run}
 use Rattle.list_slice.specs.Items.{References, added, gathered}
+use Rattle.resolver.specs.declared.lists.Lists.{Lists}
 use Rattle.resolver.specs.declared.walk.Walk.{Walk}
 use Rattle.resolver.specs.declared.text.Data.{Data}
-use Rattle.resolver.specs.Walk.{piece_at, references_in, walked}
+use Rattle.resolver.specs.Walk.{start_of, end_of, piece_at, references_in, walked}
 use Rattle.resolver.specs.Sizes.{piece_data, measures, all_short, all_clear}
 use Rattle.resolver.specs.Texts.{Known, entry_data}
 use Rattle.resolver.specs.Steps.{Fine, Standing, begun, joined, unless_long, stepped, Room, bodies, piece_body, stepped_at, Measured, Walked, adds, spots, Placed, placed, marked_at}
 use Rattle.resolver.proofs.OpCodes.{op_code, op_says}
 use Rattle.resolver.proofs.Entries.{entry_piece}
 use Rattle.resolver.proofs.Items.{fine_before, Counts, Stepped, step_law, Grows, same, more, last, grows, short_before, adds_law, Marks, marks, other, marks_law, clear_law, frame_small}
+
+pub standing_at : (l : Lists) {j : ℕ} → j < l.count → Standing l.script.bytes.now l.list.now (start_of l.list.now j) (end_of l.list.now j)
+standing_at l h = l.stands.standing _ (omega (arith, l.counted))
 
 -- the body that an entry brings, by its words
 
