@@ -21,8 +21,8 @@ pub struct Span {
 }
 
 // The present list is read from `at` on. Its entries stand from entry `top` on, its positions in the table before `places`. Finished lists stand below
-// entry `low`. `outer` has the spans of the lists around, as many as `depth` says. The list slice is no field: each method would have to say of it that it is
-// still the caller's.
+// entry `low`. `outer` has the spans of the lists around, as many as `depth` says. The list slice is no field, and no ghost field says what its words stand for:
+// after a refusal they stand for nothing.
 #[derive(Drop)]
 pub struct Walk<'a> {
     pub bytes: &'a [u8],

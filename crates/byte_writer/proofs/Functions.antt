@@ -1,5 +1,5 @@
 -- The header of a function of the file.
-use Prim.Native.Nat.{ℕ, zero, suc, ◌-◌, ◌≤◌}
+use Prim.Native.Nat.{ℕ, zero, suc, ◌-◌}
 use mathlib.Core.Path.{◌≡◌, refl, ap, sym, ◌∙◌}
 use mathlib.Core.List.{List}
 use Rattle.hir.specs.Hir.{Rec}
@@ -28,9 +28,6 @@ list_meanings (suc n) (more before r kids) = list_meanings n before
 module _ (F : List ℕ) (l : Layout) (k size : ℕ) (i : IsFunction F l k) {row : Row} (e : row ≡ row_in (rows_of F l) k) where
   row_is : row ≡ row_in (rows_in F) k
   row_is = rw (← i.within.layout) e
-
-  pub row_counted : 1 ≤ row.size
-  row_counted = rw row_is i.counted
 
   pub kids_within : Within F l (record { end = k; n = row.size - 1 })
   kids_within = rw row_is i.within

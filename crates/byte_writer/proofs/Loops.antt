@@ -42,9 +42,6 @@ left_room x rest i h = omega (arith, i.place, i.long, length-append x rest)
 
 -- a number of k bytes, the first i of which are written
 
-pub number_start : (o : List ℕ) (at k n : ℕ) → Left o at (word k n) o (at + 0) (word (k - 0) n)
-number_start o at k n = let e : at + 0 ≡ at = omega arith in let f : k - 0 ≡ k = omega arith in rw (e, f) (left_start o at (word k n))
-
 module _ {o₀ bs o : List ℕ} {at k : ℕ} (i rest : ℕ) (v : Left o₀ at bs o (at + i) (word (k - i) rest)) where
   pub number_next : i < k → Left o₀ at bs (set o (at + i) (rest % 256)) (at + (i + 1)) (word (k - (i + 1)) (rest / 256))
   unfolding word

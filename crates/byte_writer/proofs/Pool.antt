@@ -1,6 +1,6 @@
 -- The pool's strings, one after the other.
 use Prim.Native.Nat.{ℕ, ◌+◌, ◌-◌, ◌<◌}
-use mathlib.Core.Path.{◌≡◌, refl, sym, ◌∙◌, subst}
+use mathlib.Core.Path.{◌≡◌, sym, ◌∙◌, subst}
 use mathlib.Core.List.{List, ◌++◌, map}
 use native.Mathlib.Omega.{arith}
 use native.Mathlib.Numerals.{add-one}
@@ -13,7 +13,7 @@ use Rattle.byte_writer.specs.declared.Writer.{Writer}
 use Rattle.byte_writer.specs.Data.{texts_from, pool_data}
 use Rattle.byte_writer.specs.Writer.{HasRoom, Writes}
 use Rattle.byte_writer.proofs.Writes.{has_rest, writes_next}
-use Rattle.byte_writer.proofs.Loops.{Left, left_start, left_write, left_room, left_done}
+use Rattle.byte_writer.proofs.Loops.{Left, left_write, left_room, left_done}
 
 abbrev pub texts : ScriptFile → List ℕ → Bytes
 texts s rs = join zero_ended (map (text_at s.bytes.now s.layout) rs)
@@ -23,9 +23,6 @@ pub record TextsLeft (w : Writer) (rs : List ℕ) (i : ℕ) (w' : Writer) : Type
   pub same_script : w'.script ≡ w.script
   pub same_output : w'.output.ghost_name ≡ w.output.ghost_name
   pub left : Left w.output.now w.at (texts w.script rs) w'.output.now w'.at (texts w.script (drop i rs))
-
-pub texts_start : (w : Writer) (rs : List ℕ) → TextsLeft w rs 0 w
-texts_start w rs = record { same_script = refl; same_output = refl; left = left_start w.output.now w.at (texts w.script rs) }
 
 module _ {w w' : Writer} {rs : List ℕ} {i : ℕ} (v : TextsLeft w rs i w') (h : i < length rs) where
   abbrev text' : Bytes

@@ -3,7 +3,7 @@
 // Compiles script files that stand in a text, a line `NAME BYTES` for each, and prints NAME, the listing of its lists and its action bytes, or its refusal.
 // It also compiles each file again at the edges of what a call is lent.
 use crate::edges::{put_edges, put_sum};
-use listing_text::put_compiled;
+use listing_text::{LIST_WORDS, put_compiled};
 use listing_text::replay::replay;
 use listing_text::text::{Hex, put_refusal};
 use rascal::compile;
@@ -38,7 +38,7 @@ fn put_answer<W: Write>(
 }
 
 fn main(rt: HostRuntime) -> io::Result<()> {
-    let mut list = vec![in rt.alloc(); 0u32; 16384]?;
+    let mut list = vec![in rt.alloc(); 0u32; LIST_WORDS]?;
     let mut output = vec![in rt.alloc(); 0u8; 65536]?;
     let mut out = BufWriter::with_capacity(rt.alloc(), 65536, rt.stdout())?;
     replay(rt.alloc(), rt.stdin(), &mut out, |file, out| {

@@ -1,7 +1,7 @@
 #![tactic(auto)]
 
 // Prints the listing of the script file on standard input, or its refusal.
-use listing_text::put_compiled;
+use listing_text::{LIST_WORDS, put_compiled};
 use listing_text::text::put_refusal;
 use rascal::compile;
 use refusal::Refusal;
@@ -21,7 +21,7 @@ fn answer(file: &[u8], list: &mut [u32], output: &mut [u8]) -> Result<usize, Ref
 fn main(rt: HostRuntime) -> io::Result<()> {
     let mut file = Vec::new(rt.alloc());
     rt.stdin().take(FILE_END as u64).read_to_end(&mut file)?;
-    let mut list = vec![in rt.alloc(); 0u32; 16384]?;
+    let mut list = vec![in rt.alloc(); 0u32; LIST_WORDS]?;
     let mut output = vec![in rt.alloc(); 0u8; 65536]?;
     let mut out = BufWriter::with_capacity(rt.alloc(), 65536, rt.stdout())?;
     match answer(&file, &mut list, &mut output) {

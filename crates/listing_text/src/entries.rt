@@ -1,6 +1,16 @@
 // The words of a list slice (docs/LISTS.md).
 use pcode::PushValue;
 
+// Where its areas begin: entries stand first, three words each.
+const LABELS: usize = 12288;
+
+const LIST_ENDS: usize = 13312;
+
+const POOL: usize = 14336;
+
+// The words that a call needs.
+pub const LIST_WORDS: usize = 16384;
+
 // The areas of a list slice; of what does not lie in it, none.
 #[derive(Clone, Copy)]
 pub struct Lists<'a> {
@@ -66,9 +76,9 @@ impl Entry {
 impl<'a> From<&'a [u32]> for Lists<'a> {
     fn from(words: &'a [u32]) -> Lists<'a> {
         Lists {
-            entries: words.get(..12288).unwrap_or(&[]).as_chunks().0,
-            ends: words.get(13312..14336).unwrap_or(&[]),
-            pool: words.get(14336..16384).unwrap_or(&[]),
+            entries: words.get(..LABELS).unwrap_or(&[]).as_chunks().0,
+            ends: words.get(LIST_ENDS..POOL).unwrap_or(&[]),
+            pool: words.get(POOL..LIST_WORDS).unwrap_or(&[]),
         }
     }
 }

@@ -7,12 +7,13 @@ pub mod replay;
 mod source;
 pub mod text;
 
+pub use crate::entries::LIST_WORDS;
 use crate::entries::{Entry, Lists};
 use crate::names::{Operand, action_of};
 use crate::source::{Actions, Registers, Source};
 use crate::text::Text;
 use pcode::PushValue;
-use script_records::layout::{ScriptFile, layout_of};
+use script_records::layout::ScriptFile;
 use std::io::Write;
 use std::{fmt, io};
 
@@ -152,14 +153,9 @@ impl<S: Source, W: Write> Printer<'_, '_, S, W> {
 
 // The lists of a compiled script file.
 pub fn put_compiled<W: Write>(list: &[u32], file: &[u8], out: &mut W) -> io::Result<()> {
-    let layout = layout_of(file);
-    let source = ScriptFile {
-        bytes: file,
-        layout,
-    };
     let mut printer = Printer {
         lists: Lists::from(list),
-        source: &source,
+        source: &ScriptFile::new(file),
         out,
     };
     printer.put_lists()

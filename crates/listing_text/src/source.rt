@@ -171,17 +171,14 @@ impl Source for Actions<'_> {
         record.short();
         let name = record.string();
         record.short();
-        let mut row = Row {
-            kind: 49,
-            a: 0,
-            b: 0,
-            c: 0,
-            size: 0,
+        let row = match code {
+            DEFINE_FUNCTION2 => Row {
+                b: u32::from(record.byte()),
+                c: u32::from(record.short()),
+                ..Row::default()
+            },
+            _ => Row::default(),
         };
-        if code == DEFINE_FUNCTION2 {
-            row.b = u32::from(record.byte());
-            row.c = u32::from(record.short());
-        }
         Header {
             name,
             registers: registers_of(row),

@@ -31,10 +31,6 @@ dec_eq a b = go (eqb a b) refl
     go true e = yes (eqb-true a b e)
     go false e = no (eqb-false a b e)
 
--- an offset that would lie below 0
-pub offset_none : (after target : ℕ) → 65536 + target < after → 0 ≡ offset after target
-offset_none a t h = let z : 65536 + t - a ≡ 0 = omega arith in rw z
-
 -- a branch, or another entry
 
 module _ (r : References) where

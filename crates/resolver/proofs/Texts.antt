@@ -187,9 +187,6 @@ params_start {F} {l} {p} w e =
     })
 
 module _ {F : List ℕ} {l : Layout} {p left : Part} {t : Text} (v : ParamsInv F l p left t) where
-  pub params_few : Few t
-  params_few = record { small = v.small; few = omega (arith, v.few, v.most) }
-
   pub params_less : {r : Node Part} → r ≡ node_of F l left → 0 < left.n → r.before.n < left.n
   params_less e z = omega (arith, (is_node F l left v.within e).apart)
 
@@ -317,12 +314,3 @@ pool_small {F} h w n k {t} e =
     let s = texts_small F (take n (pool_in limits01 w)) (accepted_short F h.accepted) in
     let m : length (take n (pool_in limits01 w)) ≤ 2048 = simp length-take (omega arith) in
     rw e (omega (arith, s.0))
-
--- what a header's strings and what stands beside them can come to
-pub function_fits : (s : Str) → length s ≤ 1048576 → {t : Text} → Few t → {u : Text} → u ≡ with_text s t → (n : ℕ) {b : ℕ} → b ≡ cond (leb n 1) 4 (7 + t.count) →
-    b + u.bytes ≤ 274877906944
-function_fits s h {t} f {u} e n {b} q = go (leb n 1) q
-  where
-    go : (x : Bool) → b ≡ cond x 4 (7 + t.count) → b + u.bytes ≤ 274877906944
-    go true q = omega (arith, ap (λ (x : Text). x.bytes) e, f.small, f.few, h)
-    go false q = omega (arith, ap (λ (x : Text). x.bytes) e, f.small, f.few, h)

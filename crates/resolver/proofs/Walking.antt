@@ -17,15 +17,19 @@ use Rattle.action_format.proofs.Tests.{All}
 use Rattle.list_slice.specs.Entry.{Piece, Null, Undefined, Boolean, String, Register, Float, Integer, Constant, value, Entry, entry_of}
 use Rattle.list_slice.specs.Words.{entry_at, run}
 use Rattle.list_slice.specs.Items.{References, added, gathered}
+use Rattle.resolver.specs.declared.lists.Lists.{Lists}
 use Rattle.resolver.specs.declared.walk.Walk.{Walk}
 use Rattle.resolver.specs.declared.text.Data.{Data}
-use Rattle.resolver.specs.Walk.{piece_at, references_in, walked}
+use Rattle.resolver.specs.Walk.{start_of, end_of, piece_at, references_in, walked}
 use Rattle.resolver.specs.Sizes.{piece_data, measures, all_short, all_clear}
 use Rattle.resolver.specs.Texts.{Known, entry_data}
 use Rattle.resolver.specs.Steps.{Fine, Standing, begun, joined, unless_long, stepped, Room, bodies, piece_body, stepped_at, Measured, Walked, adds, spots, Placed, placed, marked_at}
 use Rattle.resolver.proofs.OpCodes.{op_code, op_says}
 use Rattle.resolver.proofs.Entries.{entry_piece}
 use Rattle.resolver.proofs.Items.{fine_before, Counts, Stepped, step_law, Grows, same, more, last, grows, short_before, adds_law, Marks, marks, other, marks_law, clear_law, frame_small}
+
+pub standing_at : (l : Lists) {j : ℕ} → j < l.count → Standing l.script.bytes.now l.list.now (start_of l.list.now j) (end_of l.list.now j)
+standing_at l h = l.stands.standing _ (omega (arith, l.counted))
 
 -- the body that an entry brings, by its words
 
@@ -198,7 +202,7 @@ module _ {F w sizes : List ℕ} {from end i : ℕ} {k : Walk} {starts : List ℕ
   walk_room = record { actions = omega (arith, v.few, v.high, s.cap); bytes = omega (arith, v.most, v.high, s.cap); last = v.last }
 
   module _ (go_on : from < i) where
-    pub walk_known : Known F w (i - 1)
+    walk_known : Known F w (i - 1)
     walk_known = s.known (i - 1) (omega (arith, v.low)) (omega (arith, v.low, v.high))
 
     abbrev is : List Item
@@ -293,7 +297,7 @@ unfolding all_clear
 clear_start {F} {w} {from} {end} s = record { low = s.order; high = omega arith; is = rw (walked_none F w end) }
 
 module _ {F w : List ℕ} {from end i : ℕ} {clear : Bool} (s : Standing F w from end) (v : ClearInv F w from end i clear) where
-  pub clear_known : from < i → Known F w (i - 1)
+  clear_known : from < i → Known F w (i - 1)
   clear_known z = s.known (i - 1) (omega (arith, v.low)) (omega (arith, v.low, v.high))
 
   pub clear_again : (z : from < i) {d : Data} → d ≡ entry_data F w (entry_at w (i - 1)) → ClearInv F w from end (i - 1) (d.clear && clear)
@@ -303,9 +307,6 @@ module _ {F w : List ℕ} {from end i : ℕ} {clear : Bool} (s : Standing F w fr
     is = rw ((entry_piece F w (clear_known z) e).1, v.is) (sym (ap all_clear (walked_more F w i end (omega (arith, v.low)) v.high)
         ∙ clear_law (references_in F w) (piece_at w (i - 1)) (walked F w i (end - i)) (fine_next s i (omega (arith, v.low)) v.high)));
   }
-
-  pub clear_done : i ≡ from → clear ≡ all_clear (walked F w from (end - from))
-  clear_done z = v.is ∙ ap (λ (j : ℕ). all_clear (walked F w j (end - j))) z
 
 -- the marks
 
@@ -410,7 +411,3 @@ mark_again {w} {from} {end} {i} {p} {places} v z q {n} e =
 pub mark_done : {w : List ℕ} {from end i p : ℕ} {places : List ℕ} → MarkInv w from end i p places → i ≡ from → (F : List ℕ) → Standing F w from end →
     Placed (walked F w from (end - from)) places
 mark_done {w} {from} {end} {i} {p} {places} v z F s = subst (λ (j : ℕ). Placed (walked F w j (end - j)) places) z (v.at F s).1
-
-pub walk_long : {F w sizes : List ℕ} {from end i : ℕ} {k : Walk} {starts : List ℕ} → WalkInv F w sizes from end i k starts → {starts' : List ℕ} → starts' ≡ set starts k.actions k.bytes →
-    length starts' ≡ 4097
-walk_long {k = k} {starts} v e = ap length e ∙ length-set starts k.actions k.bytes ∙ v.long

@@ -5,3 +5,4 @@ pub mod Texts
 pub mod Steps
 pub mod Passes
 pub mod Resolved
+pub mod Props

@@ -45,18 +45,16 @@ impl Lists<'_> {
         if !is_branch_code(entry.code) {
             return true;
         }
-        let place = places.of(Label(entry.first));
-        let target = places.start(place);
-        let after = places.start(Position(p + 1));
+        let place = places.place_of(Label(entry.first));
+        let target = places.start_of(place);
+        let after = places.start_of(Position(p + 1));
         offsets[e] = offset_to(after, target);
         in_reach(after, target)
     }
 
     // The offsets of a list's branches, and whether each reaches its place.
     pub fn resolve_list(&self, j: usize, places: &Places, offsets: &mut [u32; 4096]) -> bool
-        requires j_bound { j < 1024 }
-        requires order { start_of self.now.list.now j ≤ end_of self.now.list.now j }
-        requires cap { end_of self.now.list.now j ≤ 4096 }
+        requires { j < self.now.count }
         ensures { let w = self.now.list.now in let from = start_of w j in let end = end_of w j in
             (F ss : List ℕ) (f : ℕ → ℕ) → Standing F w from end → ReadyList F w from end ss f places.now.starts places.now.labels →
             (result ≡ all_near_in ss f (walked F w from (end - from))) × Offsets F w from end ss f offsets.old offsets.new }

@@ -17,7 +17,6 @@ use refusal::Refusal;
 
 // The bytes of each body, by list number, and the offset of each branch, by its entry; and the bytes of the top list's body.
 pub fn resolve(lists: &Lists, tables: &mut Tables) -> Result<u32, Refusal>
-    requires { Lowered lists.now.script.bytes.now lists.now.list.now }
     ensures { (h : Lowered lists.now.script.bytes.now lists.now.list.now) →
         Resolves lists.now.script.bytes.now lists.now.list.now h.lists tables.new.sizes tables.new.offsets result }
 {

@@ -1,10 +1,13 @@
 // The compiled lists of an accepted script file, in the order in which they finish.
 ghost use Rattle.std.specs.Prelude.{◌≡◌, ◌≤◌, ◌<◌, length};
 ghost use Rattle.resolver.specs.Walk.{count_of, start_of, end_of};
+ghost use Rattle.std.proofs.Props.{props};
 ghost use Rattle.script_records.specs.Layout.{layout_of};
-ghost use Rattle.script.specs.Rules.{check_of};
 ghost use Rattle.script.specs.Write.{Bytes};
+ghost use Rattle.resolver.specs.Lowered.{Lowered};
 ghost use Rattle.resolver.specs.Texts.{Ready};
+ghost use Rattle.resolver.specs.Passes.{Stands};
+ghost use Rattle.resolver.specs.Props.{operand_prop, all_fine_prop, truth_prop};
 
 use script_records::layout::{ScriptFile, layout_of};
 use slice_words::{ENDS_AT, POOL_AT};
@@ -17,12 +20,12 @@ pub struct Lists<'a> {
     pub ghost bytes: { Bytes script.bytes.now },
     pub ghost ready: { Ready script.bytes.now script.layout },
     pub ghost short: { length script.bytes.now ≤ 1048576 },
-    pub ghost long: { 16384 ≤ length list.now },
     pub ghost counted: { count ≡ count_of list.now },
+    pub ghost stands: { Stands script.bytes.now list.now } by { Prim.hlevel (props, operand_prop, all_fine_prop, truth_prop) },
 }
 
 // How many lists there are: the last end that is not 0 is the top list's.
-fn count_lists(list: &[u32]) -> usize
+pub fn count_lists(list: &[u32]) -> usize
     requires { 16384 ≤ length list.now }
     ensures { result ≡ count_of list.now }
 {
@@ -34,8 +37,7 @@ fn count_lists(list: &[u32]) -> usize
 
 impl<'a> Lists<'a> {
     pub fn new(file: &'a [u8], list: &'a [u32]) -> Lists<'a>
-        requires accepted { check_of file.now ≡ 0 }
-        requires long { 16384 ≤ length list.now }
+        requires { Lowered file.now list.now }
         ensures script { (result.script.bytes.now ≡ file.now) × (result.script.layout ≡ layout_of file.now) }
         ensures list { result.list.now ≡ list.now }
     {

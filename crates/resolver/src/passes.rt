@@ -1,6 +1,6 @@
 // The passes over all lists, in the order in which they finish.
 ghost use Rattle.std.specs.Prelude.{◌≡◌, List, ℕ, ◌+◌, ◌≤◌, ◌<◌, length, get_or};
-ghost use Rattle.resolver.specs.Passes.{number_at, Stands, Sized, SizesTo, Tried, Passed, clear_lists};
+ghost use Rattle.resolver.specs.Passes.{number_at, Sized, SizesTo, Tried, Passed, clear_lists};
 
 use crate::lists::Lists;
 use crate::walk::word_of;
@@ -15,13 +15,13 @@ pub struct Places {
 }
 
 impl Places {
-    pub fn of(&self, l: Label) -> Position
+    pub fn place_of(&self, l: Label) -> Position
         ensures { result.0 ≡ get_or self.now.labels l.0 0 }
     {
         Position(word_of(&self.labels, l.0))
     }
 
-    pub fn start(&self, p: Position) -> ByteOffset
+    pub fn start_of(&self, p: Position) -> ByteOffset
         ensures { result.0 ≡ get_or self.now.starts p.0 0 }
     {
         ByteOffset(word_of(&self.starts, p.0))
@@ -53,7 +53,6 @@ fn number_at(n: usize, j: usize) -> usize
 impl Lists<'_> {
     // No string of any list has a zero byte.
     pub fn clear_lists(&self) -> bool
-        requires { Stands self.now.script.bytes.now self.now.list.now }
         ensures { result ≡ clear_lists self.now.script.bytes.now self.now.list.now self.now.count }
     {
         let mut clear = true;
@@ -65,8 +64,7 @@ impl Lists<'_> {
 
     // The list at this place: none if a record or its body is too long.
     fn measure_list(&self, j: usize, tables: &mut Tables, places: &mut Places) -> Option<Body>
-        requires stands { Stands self.now.script.bytes.now self.now.list.now }
-        requires j_bound { j < self.now.count }
+        requires { j < self.now.count }
         ensures same_sizes { tables.new.sizes ≡ tables.old.sizes }
         ensures tried { (s : Sized self.now.script.bytes.now self.now.list.now) → SizesTo s j tables.old.sizes →
             Tried s j tables.old.offsets tables.new.offsets result }
@@ -82,7 +80,6 @@ impl Lists<'_> {
 
     // Fills the tables, or refuses a record or a body for its bytes, or a branch for its distance.
     pub fn measure_lists(&self, tables: &mut Tables) -> Result<(), Refusal>
-        requires { Stands self.now.script.bytes.now self.now.list.now }
         ensures { (s : Sized self.now.script.bytes.now self.now.list.now) → Passed s tables.new.sizes tables.new.offsets result }
     {
         let mut places = Places {

@@ -9,7 +9,7 @@ ghost use Rattle.resolver.specs.Texts.{Few, with_text, texts_of, param_names, fu
 use crate::lists::Lists;
 use decode::function_of;
 use script_records::part::Part;
-use slice_words::{Entry, NO_STRING, POOL_AT, code, entry_at, param_of, text};
+use slice_words::{NO_STRING, POOL_AT, code, entry_at, param_of, text};
 use tree::Trees;
 
 // Strings in a row: their bytes, each with its zero byte, how many there are, and whether no other byte of them is zero.

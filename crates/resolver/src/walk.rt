@@ -10,8 +10,12 @@ use crate::lists::Lists;
 use pcode::{Label, Position};
 use slice_words::{code, entry_at};
 
-// The most bytes of a record's data or of a body, and of a record.
+// The most bytes of a record's data, of a record, and of a body.
 const MOST_DATA: usize = 65535;
+
+const MOST_RECORD: u32 = 65538;
+
+const MOST_BODY: u32 = 65535;
 
 // What has been walked of a list: how many actions, their bytes, and where the last one begins.
 #[derive(Clone, Copy, Default)]
@@ -36,18 +40,18 @@ impl Walk {
         if code == code::MARK {
             return Some(self);
         }
-        if 65535 < size {
+        if MOST_DATA < size {
             return None;
         }
         let n = size as u32;
         if code::LATER_VALUE <= code {
             let bytes = self.bytes + n;
-            if 65538 < bytes - self.last {
+            if MOST_RECORD < bytes - self.last {
                 return None;
             }
             return Some(Walk { bytes, ..self });
         }
-        if 65535 < body {
+        if MOST_BODY < body {
             return None;
         }
         Some(Walk {
@@ -106,8 +110,7 @@ impl Lists<'_> {
 
     // The records of a list and where each begins: none if one is too long.
     pub fn walk_list(&self, j: usize, sizes: &[u32; 1024], starts: &mut [u32; 4097]) -> Option<Walk>
-        requires j_bound { j < 1024 }
-        requires standing { Standing self.now.script.bytes.now self.now.list.now (start_of self.now.list.now j) (end_of self.now.list.now j) }
+        requires { j < self.now.count }
         ensures { let w = self.now.list.now in
             Walked (bodies sizes.now) (walked self.now.script.bytes.now w (start_of w j) (end_of w j - start_of w j)) result starts.new }
     {
@@ -122,8 +125,7 @@ impl Lists<'_> {
 
     // No string of a list has a zero byte.
     pub fn clear_list(&self, j: usize) -> bool
-        requires j_bound { j < 1024 }
-        requires standing { Standing self.now.script.bytes.now self.now.list.now (start_of self.now.list.now j) (end_of self.now.list.now j) }
+        requires { j < self.now.count }
         ensures { let w = self.now.list.now in
             result ≡ all_clear (walked self.now.script.bytes.now w (start_of w j) (end_of w j - start_of w j)) }
     {
@@ -148,9 +150,7 @@ impl Lists<'_> {
 
     // The positions of the labels that a list marks.
     pub fn mark_list(&self, j: usize, places: &mut [u32; 1024])
-        requires j_bound { j < 1024 }
-        requires order { start_of self.now.list.now j ≤ end_of self.now.list.now j }
-        requires cap { end_of self.now.list.now j ≤ 4096 }
+        requires { j < self.now.count }
         ensures { let w = self.now.list.now in (F : List ℕ) → Standing F w (start_of w j) (end_of w j) →
             Placed (walked F w (start_of w j) (end_of w j - start_of w j)) places.new }
     {

@@ -2,14 +2,22 @@
 use Rattle.std.specs.Prelude.{ℕ, ◌+◌, ◌^◌, List, [], ◌∷◌, ◌++◌, reverse, Bool, true, false, cond, ◌&&◌, ◌||◌, ltb, leb, eqb, get_or, replicate}
 use Rattle.hir.specs.Tree.{Forest, none, more}
 use Rattle.script_records.specs.Layout.{Words}
--- a scalar: a number below some number, a string by its index, or such an index plus 1, with 0 for none
 pub use Rattle.script.specs.declared.forms.Scalar.{Scalar}
-pub use Rattle.script.specs.declared.forms.Scalar.TheVariants.{Below as below, String as string, OptionalString as optional-string}
+use Rattle.script.specs.declared.forms.Scalar.TheVariants as scalar
 pub use Rattle.script.specs.declared.forms.Class.{Class}
-pub use Rattle.script.specs.declared.forms.Class.TheVariants.{Statement as statement, Expr as expr, Field as field, Parameter as parameter, Element as element}
--- a child: one of a class, one that may be absent, a list of a class, or StartDrag's constraints
+use Rattle.script.specs.declared.forms.Class.TheVariants as class
 pub use Rattle.script.specs.declared.forms.Sort.{Sort}
-pub use Rattle.script.specs.declared.forms.Sort.TheVariants.{One as one, Optional as optional, List as list, Constraints as constraints}
+use Rattle.script.specs.declared.forms.Sort.TheVariants as sort
+
+-- a scalar: a number below some number, a string by its index, or such an index plus 1, with 0 for none
+pattern abbrev pub below : ℕ → Scalar
+below n = scalar.Below n
+
+pattern abbrev pub string : Scalar
+string = scalar.String
+
+pattern abbrev pub optional-string : Scalar
+optional-string = scalar.OptionalString
 
 -- what a scalar is below, in a file of m strings
 abbrev pub limit : ℕ → Scalar → ℕ
@@ -35,6 +43,21 @@ marks = below 512
 abbrev word : Scalar
 word = below (2 ^ 32)
 
+pattern abbrev pub statement : Class
+statement = class.Statement
+
+pattern abbrev pub expr : Class
+expr = class.Expr
+
+pattern abbrev pub field : Class
+field = class.Field
+
+pattern abbrev pub parameter : Class
+parameter = class.Parameter
+
+pattern abbrev pub element : Class
+element = class.Element
+
 -- the kinds of a class; a switch's elements are statements, 100 (Case) and 101 (Default)
 abbrev pub is_class : Class → ℕ → Bool
 is_class statement k = ltb k 16
@@ -42,6 +65,19 @@ is_class expr k = leb 32 k && ltb k 78
 is_class field k = eqb k 98
 is_class parameter k = eqb k 99
 is_class element k = ltb k 16 || (eqb k 100 || eqb k 101)
+
+-- a child: one of a class, one that may be absent, a list of a class, or StartDrag's constraints
+pattern abbrev pub one : Class → Sort
+one c = sort.One c
+
+pattern abbrev pub optional : Class → Sort
+optional c = sort.Optional c
+
+pattern abbrev pub list : Class → Sort
+list c = sort.List c
+
+pattern abbrev pub constraints : Sort
+constraints = sort.Constraints
 
 -- the words a, b, c and the children; a list, whose a counts its children; a kind that refusal 3 names; no kind
 pub data Form : Type 0 where

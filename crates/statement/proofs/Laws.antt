@@ -46,9 +46,10 @@ use Rattle.tree.proofs.Meanings as tree-meanings
 use Rattle.tree.proofs.Counting.{element_is}
 use Rattle.operators.specs.declared.shape.Shape.{Shape}
 use Rattle.operators.specs.declared.shape.Shape.TheVariants as code_shape
-use Rattle.operators.specs.declared.shape.Literal.{Literal}
 use Rattle.operators.specs.declared.shape.Literal.TheVariants as code-literal
-use Rattle.operators.specs.Shapes.{root_shape, constant_literal, shape_literal}
+use Rattle.std.specs.Prelude.{Some, IfSome, option_map, unwrap_or}
+use Rattle.lowering.specs.Access.{Direct, ◌gives◌}
+use Rattle.operators.specs.Shapes.{root_shape, constant_literal, shape_literal, shape_in}
 use Rattle.operators.proofs.Shapes.{shape_named}
 use Rattle.builder.specs.Labels.{labels_of_forest, elements_from}
 use Rattle.rows.specs.Rows.{cases_of, conditional}
@@ -188,10 +189,10 @@ module _ {F : List ℕ} {l : Layout} {p es : Part} (k : IsList F l p 0 es) {n : 
   pub labels_less : n.labels ≤ p.n
   labels_less = rw e (omega (arith, labelled_less F es, k.fewer))
 
-  pub default_less : n.from_default ≤ n.labels
+  pub default_less : IfSome n.from_default (λ k. k ≤ n.labels)
   default_less = rw e (tree-meanings.default_less F es)
 
-  pub switching : (end first : ℕ) {default : ℕ} → first + p.n < 0x1_0000_0000 → default ≡ cond (eqb n.from_default 0) end (first + (n.labels - n.from_default)) → Switching F p end first default n.cases
+  pub switching : (end first : ℕ) {default : ℕ} → first + p.n < 0x1_0000_0000 → default ≡ unwrap_or (option_map (λ k. first + (n.labels - k)) n.from_default) end → Switching F p end first default n.cases
   switching end first s d = record { testing = record { cases = cases_counted; small = s }; default_is = d ∙ rw (e, k.means) (sym (default_is end first (trees F es))) }
 
 pub no_labels : (F : List ℕ) (p : Part) (first : ℕ) → labels_of_forest (list_at F p 0) ≡ 0 → (has_case (elements_from first (list_at F p 0)) || has_default (elements_from first (list_at F p 0))) ≡ false
@@ -219,40 +220,33 @@ module _ {F : List ℕ} {l : Layout} {p : Part} {t : Node Part} (i : IsNode F l 
 
 -- a literal's string is a string of the file
 
-abbrev is_string : Literal → Type 0
-is_string (code-literal.String s) = Unit
-is_string (code-literal.Integer n) = ⊥
-is_string (code-literal.Float low high) = ⊥
-is_string code-literal.NoLiteral = ⊥
-
-not_string : (x : Literal) (s : ℕ) → (is_string x → ⊥) → x ≡ code-literal.String s → ⊥
-not_string x s h e = h (rw e tt)
-
-constant_string : (F : List ℕ) (c : ConstantKind) (s : ℕ) → T (constant_named F c) → constant_literal c ≡ code-literal.String s → T (names_string F s)
+constant_string : (F : List ℕ) (c : ConstantKind) (s : ℕ) → T (constant_named F c) → constant_literal c ≡ Some (code-literal.String s) → T (names_string F s)
 constant_string F (code-constant.String r) s h e = let x : r ≡ s = cc in rw (← x) h
-constant_string F (code-constant.Identifier r) s h e = absurd (not_string _ s (λ z. z) e)
-constant_string F (code-constant.Float low high) s h e = absurd (not_string _ s (λ z. z) e)
-constant_string F (code-constant.Integer n) s h e = absurd (not_string _ s (λ z. z) e)
-constant_string F (code-constant.Boolean b) s h e = absurd (not_string _ s (λ z. z) e)
-constant_string F (code-constant.Register r) s h e = absurd (not_string _ s (λ z. z) e)
+constant_string F (code-constant.Identifier r) s h e = cc
+constant_string F (code-constant.Float low high) s h e = cc
+constant_string F (code-constant.Integer n) s h e = cc
+constant_string F (code-constant.Boolean b) s h e = cc
+constant_string F (code-constant.Register r) s h e = cc
 
-shape_string : (F : List ℕ) (i : ℕ) (r : Record) (x : Shape) (s : ℕ) → T (record_named F i r) → root_shape r ≡ x → shape_literal x ≡ code-literal.String s → T (names_string F s)
+shape_string : (F : List ℕ) (i : ℕ) (r : Record) (x : Shape) (s : ℕ) → T (record_named F i r) → root_shape r ≡ x → shape_literal x ≡ Some (code-literal.String s) → T (names_string F s)
 shape_string F i r (code_shape.Constant c) s h k e = constant_string F c s (shape_named F i r h c k) e
-shape_string F i r code_shape.Field s h k e = absurd (not_string _ s (λ z. z) e)
-shape_string F i r code_shape.NamedFunction s h k e = absurd (not_string _ s (λ z. z) e)
-shape_string F i r code_shape.Other s h k e = absurd (not_string _ s (λ z. z) e)
+shape_string F i r code_shape.Field s h k e = cc
+shape_string F i r code_shape.NamedFunction s h k e = cc
+shape_string F i r code_shape.Other s h k e = cc
 
-pub literal_named : (F : List ℕ) (i : ℕ) (r : Record) (s : ℕ) → T (record_named F i r) → shape_literal (root_shape r) ≡ code-literal.String s → T (names_string F s)
+pub literal_named : (F : List ℕ) (i : ℕ) (r : Record) (s : ℕ) → T (record_named F i r) → shape_literal (root_shape r) ≡ Some (code-literal.String s) → T (names_string F s)
 literal_named F i r s h e = shape_string F i r (root_shape r) s h refl e
+
+-- what is generated as any other expression is
+pub plain_access : (F : List ℕ) {x : Shape} → (x ≡ code_shape.NamedFunction) ⊎ (x ≡ code_shape.Other) → (ms : Forest Meaning) (m : Step) → for_shape (shape_in F x) ms m ≡ (m gives Direct)
+plain_access F (inl e) ms m = rw e
+plain_access F (inr e) ms m = rw e
 
 -- a Field is there
 pub field_live : (r : Record) → root_shape r ≡ code_shape.Field → 1 ≤ live r
 field_live (kind.Expr k) e = omega arith
 field_live (kind.Statement k) e = omega arith
-field_live kind.Absent e = absurd (other_field e)
-  where
-    other_field : code_shape.Other ≡ code_shape.Field → ⊥
-    other_field x = let y : ◌≡◌ {A = ℕ} 0 1 = cc in absurd (omega arith)
+field_live kind.Absent e = cc
 field_live (kind.List n) e = omega arith
 field_live (kind.ObjectField n) e = omega arith
 field_live (kind.Parameter n r) e = omega arith
@@ -268,6 +262,10 @@ both_true false b h = elim h [ ]
 pub number_less : (F : List ℕ) (i : ℕ) → T (names_function F i) → i < (layout_of F).count
 unfolding names_function
 number_less F i h = ltb-true i (layout_of F).count (both_true (ltb i (layout_of F).count) _ h)
+
+pub bool_small : (b : Bool) → from_bool b ≤ 1
+bool_small true = omega arith
+bool_small false = omega arith
 
 pub bit_is : (b : Bool) → unsigned (pos (from_bool b)) ≡ bit b
 bit_is true = refl

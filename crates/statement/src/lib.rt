@@ -34,8 +34,8 @@ use leaves::{
     is_labelled, jump_to, keeps_old, leaves_none, leaves_value, name_of, negate_float,
     negate_integer, play_if, push_constants, push_count, push_if, read_constant, word_of,
 };
-use operators::shape::{Literal, Shape, is_present, literal_of, shape_of};
-use operators::{Plan, action_of, plan_of};
+use operators::shape::{Literal, Shape, is_present, literal_of};
+use operators::{Plan, action_of};
 use pcode::{Label, Op, PushValue};
 use rows::blocks::innermost;
 use rows::ends::ends_of;
@@ -55,7 +55,7 @@ pub fn gen_statements(
     requires { Walk t.now b list.old (length scratch.old) }
     ensures { Does (file_of t.now) (statement.gen_statements (loop_of lp) (meanings_of t.now)) b list.old tt result list.new }
 {
-    if !has_hoisted(t.script.bytes, t.script.layout, t.part) {
+    if !has_hoisted(t) {
         return each(t, b, list, scratch, Each::Statement, lp, 0, 0);
     }
     let b1 = each(t, b, list, scratch, Each::Hoisted, lp, 0, 0);
@@ -82,7 +82,7 @@ fn each(
         return b;
     }
     let start = t.part.end - t.part.n;
-    let count = ends_of(t.script.bytes, t.script.layout, t.part, scratch, what, lp);
+    let count = ends_of(t, scratch, what, lp);
     let mut cur = b;
     let mut seen: u32 = 0;
     let mut cases: u32 = 0;
@@ -111,8 +111,8 @@ fn each(
             cases,
         );
         let e = trees.element();
-        seen += is_labelled(e);
-        cases += is_case(e);
+        seen += u32::from(is_labelled(e));
+        cases += u32::from(is_case(e));
     }
     cur
 }
@@ -148,13 +148,13 @@ fn one(
         }
         Each::Statement => gen_statement(t, b, list, scratch, lp),
         Each::Hoisted => {
-            if is_hoisted(t.script.bytes, t.script.layout, t.part) {
+            if is_hoisted(t) {
                 return gen_statement(t, b, list, scratch, lp);
             }
             b
         }
         Each::Unhoisted => {
-            if is_hoisted(t.script.bytes, t.script.layout, t.part) {
+            if is_hoisted(t) {
                 return b;
             }
             gen_statement(t, b, list, scratch, lp)
@@ -204,8 +204,6 @@ fn gen_statement(
     let node = t.node();
     let root = node.root;
     let kids = node.children;
-    let break_to = lp.exit;
-    let continue_to = lp.next;
     match root {
         Record::Statement(kind) => match kind {
             StatementKind::Declare(name) => {
@@ -225,19 +223,15 @@ fn gen_statement(
             }
             StatementKind::Block => {
                 let body = kids.list(0);
-                let part = innermost(body.script.bytes, body.script.layout, body.part, lp);
-                let inner = Trees {
-                    script: t.script,
-                    part,
-                };
+                let inner = innermost(&body, lp);
                 let b1 = gen_statements(&inner, b, list, scratch, lp);
                 truncate_stack(list, b1, b.size)
             }
             StatementKind::ForIn(condition) => gen_for_loop(&kids, b, list, scratch, condition),
             StatementKind::While => gen_while_loop(&kids, b, list, scratch),
             StatementKind::If => gen_if(&kids, b, list, scratch, lp),
-            StatementKind::Break => jump_to(list, b, break_to),
-            StatementKind::Continue => jump_to(list, b, continue_to),
+            StatementKind::Break => jump_to(list, b, lp.exit),
+            StatementKind::Continue => jump_to(list, b, lp.next),
             StatementKind::Switch => gen_switch(&kids, b, list, scratch, lp),
         },
         _ => b,
@@ -522,8 +516,8 @@ fn gen_expr(
                 registers,
                 marks,
             } => {
-                let up = leaves_value(t.script.bytes, t.script.layout, name);
-                gen_function(&kids, b, list, scratch, node.number, up)
+                let up = leaves_value(&t.script, name);
+                gen_function(&kids, b, list, scratch, node.number, u32::from(up))
             }
             ExprKind::GotoFrame(play) => goto(&kids, b, list, scratch, play),
             ExprKind::StartDrag(lock) => drag(&kids, b, list, scratch, lock),
@@ -558,8 +552,7 @@ fn for_expr(t: &Trees, b: CodeBuilder, list: &mut [u32], scratch: &mut [usize]) 
     }
     let node = t.node();
     let kids = node.children;
-    let s = shape_of(node.root);
-    match s {
+    match Shape::from(node.root) {
         Shape::Constant(c) => for_constant(t.script.bytes, t.script.layout, list, b, c),
         Shape::Field => {
             let idle = no_loop();
@@ -569,14 +562,7 @@ fn for_expr(t: &Trees, b: CodeBuilder, list: &mut [u32], scratch: &mut [usize]) 
                 access: Access::Object,
             }
         }
-        Shape::NamedFunction => {
-            let b1 = gen_expr(t, b, list, scratch, false);
-            Accessed {
-                b: b1,
-                access: Access::Direct,
-            }
-        }
-        Shape::Other => {
+        Shape::NamedFunction | Shape::Other => {
             let b1 = gen_expr(t, b, list, scratch, false);
             Accessed {
                 b: b1,
@@ -599,8 +585,7 @@ fn gen_binary_op(
     ensures { Does (file_of t.now) (statement.gen_binary_op (plan o) (meanings_of t.now) discard) b list.old tt result list.new }
 {
     let left = t.kid(1);
-    let how = plan_of(o);
-    match how {
+    match Plan::from(o) {
         Plan::Trivial(o) => {
             let idle = no_loop();
             let b1 = each(t, b, list, scratch, Each::Expr, idle, 0, 0);
@@ -667,16 +652,15 @@ fn gen_unary_op(
     match o {
         UnaryOperator::Sub => {
             let node = t.node();
-            let c = literal_of(node.root);
-            match c {
-                Literal::Integer(n) => negate_integer(list, b, n),
-                Literal::Float(low, high) => negate_float(list, b, low, high),
-                Literal::String(s) => {
+            match literal_of(node.root) {
+                Some(Literal::Integer(n)) => negate_integer(list, b, n),
+                Some(Literal::Float(low, high)) => negate_float(list, b, low, high),
+                Some(Literal::String(_)) => {
                     let b1 = push(list, b, PushValue::Integer(0));
                     let b2 = gen_expr(t, b1, list, scratch, false);
                     action(list, b2, Op::Subtract)
                 }
-                Literal::NoLiteral => {
+                None => {
                     let b1 = push(list, b, PushValue::Integer(0));
                     let b2 = gen_expr(t, b1, list, scratch, false);
                     action(list, b2, Op::Subtract)
@@ -825,22 +809,21 @@ fn goto(
     ensures { Does (file_of t.now) (statement.gen_goto_frame (kid_of t.now 0) play (literal (shape_of (kid_of t.now 0).rec))) b list.old tt result list.new }
 {
     let node = t.node();
-    let c = literal_of(node.root);
-    match c {
-        Literal::String(s) => {
+    match literal_of(node.root) {
+        Some(Literal::String(s)) => {
             let b1 = goto_label(list, b, s);
             play_if(list, b1, play)
         }
-        Literal::Integer(n) => {
+        Some(Literal::Integer(n)) => {
             let frame = frame_of(n);
             let b1 = goto_frame(list, b, frame);
             play_if(list, b1, play)
         }
-        Literal::Float(low, high) => {
+        Some(Literal::Float(_, _)) => {
             let b1 = gen_expr(t, b, list, scratch, false);
             goto_frame2(list, b1, play)
         }
-        Literal::NoLiteral => {
+        None => {
             let b1 = gen_expr(t, b, list, scratch, false);
             goto_frame2(list, b1, play)
         }

@@ -1,20 +1,13 @@
 -- What the passes find is what the definition says.
-use Rattle.resolver.proofs.Stand.{stands}
 use Rattle.resolver.proofs.Sizing.{sized}
 use Rattle.resolver.proofs.Answers.{resolves}
 use Rattle.resolver.proofs.Passing.{answer_zero, answer_refused, answer_passed}
 use Rattle.resolver.proofs.resolve.Goals as goal
 
-pub clear_lists-requires : goal.clear_lists-requires
-clear_lists-requires c = stands c.requires c.args.lists.now.bytes
-
 pub returns-then-not-clear_lists : goal.returns-then-not-clear_lists
 returns-then-not-clear_lists c = λ h.
     let l = c.args.lists.now in
     resolves h l.bytes (answer_zero _ _ (rw l.counted at c.clear_lists.ensures) c.if-not-clear_lists.true (sized h l.bytes) _ _)
-
-pub measure_lists-requires : goal.measure_lists-requires
-measure_lists-requires c = stands c.requires c.args.lists.now.bytes
 
 pub returns-in_err-measure_lists : goal.returns-in_err-measure_lists
 returns-in_err-measure_lists c = λ h.

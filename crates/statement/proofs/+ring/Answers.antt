@@ -1,4 +1,5 @@
 use Rattle.statement.proofs.Arms.{statements_arm, unhoisted_arm, field_arm, test_arm, block_arm, local_arm, local_none_arm, no_values_arm, values_arm, switch_arm, switch_cases_arm, no_tests_arm, tests_arm, while_arm, for_in_arm, for_loop_arm, ends_arm, if_both_arm, if_one_arm, void_arm, trivial_arm, trivial_not_arm, trivial_assign_arm, assign_arm, and_arm, or_arm, bit_not_arm, not_arm, minus_arm, adjust_arm, kept_arm, delete_arm, ternary_arm, array_arm, object_arm, copy_arm, goto_label_arm, goto_frame_arm, goto_arm, drag_arm, drag_within_arm, get_property_arm, set_property_arm, call_arm, new_arm, direct_arm, object_access_arm}
+use borrow.Author.Rules.{rules}
 use borrow.Author.Tests.{not-true, lt-ltb}
 use native.Mathlib.Omega.{arith}
 use Prim.Native.Nat.{◌+◌}
@@ -22,7 +23,7 @@ use Rattle.builder.proofs.Body.{begun_fine, begun_named, ready, function_done}
 use Rattle.access.proofs.Texts.{text_is}
 use Rattle.rows.specs.Rows.{loop_of}
 use Rattle.leaves.proofs.Args.{some_left, expr_at, args_again, args_less, args_stopped, args_done}
-use Rattle.statement.proofs.Laws.{rec_is, element_at, value_at, value_live, no_expr, statement_at, no_statement, untested, access_at, literal_of, none_at, labels_counted, labels_less, default_less, switching, no_labels, some_labels, function_at, function_size, literal_named, field_live, number_less, bit_is, rank_least, rank_most, rank_kept}
+use Rattle.statement.proofs.Laws.{rec_is, element_at, value_at, value_live, no_expr, statement_at, no_statement, untested, access_at, literal_of, none_at, labels_counted, labels_less, default_less, switching, no_labels, some_labels, function_at, function_size, literal_named, field_live, number_less, plain_access, bool_small, bit_is, rank_least, rank_most, rank_kept}
 use Rattle.statement.proofs.Lists.{pop_holds, pop_top, pop_inside, pop_fits, pop_below, pop_few, pop_again, pop_stopped, pop_done, element_few}
 use mir.ValLaws.{to_z-of_z}
 use mir.Syntax.{w32}
@@ -165,10 +166,7 @@ pub each-overflow_sub-start : goal.each-overflow_sub-start
 each-overflow_sub-start t c = omega (arith, c.args.t.now.within.inside)
 
 pub each-ends_of-count-requires : goal.each-ends_of-count-requires
-each-ends_of-count-requires t c = record {
-  within = c.args.t.now.within;
-  n_in_bounds = c.requires.walk.fits;
-}
+each-ends_of-count-requires t c = c.requires.walk.fits
 
 pub each-loop-top-init : goal.each-loop-top-init
 each-loop-top-init t c = pop_holds c.requires.walk.fine (omega (arith, c.requires.walk.fits, c.args.t.now.within.inside, c.ends_of-count.auto.scratch)) c.ends_of-count.ensures
@@ -207,13 +205,13 @@ pub each-one-cur-requires : goal.each-one-cur-requires
 each-one-cur-requires t c = (omega (arith, pop_below c.loop-top.invariant c.loop-top-test.true c.args.t.now.part.n (omega (arith, c.args.t.now.within.inside)), c.decreases), (record { fits = simp (length-take, length-drop) (omega (arith, pop_fits c.loop-top.invariant c.loop-top-test.true)); fine = c.loop-top.invariant.fine; named = c.loop-top.invariant.named c.requires.walk.named }, omega (arith, (pop_few c.loop-top.invariant c.loop-top-test.true c.args.t.now.part.n (omega (arith, c.args.t.now.within.inside))).0, c.requires.n_bound)))
 
 pub each-overflow_add-seen : goal.each-overflow_add-seen
-each-overflow_add-seen t c = omega (arith, (pop_few c.loop-top.invariant c.loop-top-test.true c.args.t.now.part.n (omega (arith, c.args.t.now.within.inside))).0, c.is_labelled-seen.ensures, (element_few c.element-e.result).0, c.args.t.now.within.inside, c.args.t.now.within.known, c.args.t.now.within.sound.few)
+each-overflow_add-seen t c = omega (arith, (pop_few c.loop-top.invariant c.loop-top-test.true c.args.t.now.part.n (omega (arith, c.args.t.now.within.inside))).0, (c.from-seen.ensures ∙ c.is_labelled.ensures), (element_few c.element-e.result).0, c.args.t.now.within.inside, c.args.t.now.within.known, c.args.t.now.within.sound.few)
 
 pub each-overflow_add-cases : goal.each-overflow_add-cases
-each-overflow_add-cases t c = omega (arith, (pop_few c.loop-top.invariant c.loop-top-test.true c.args.t.now.part.n (omega (arith, c.args.t.now.within.inside))).1, c.is_case-cases.ensures, (element_few c.element-e.result).1, c.args.t.now.within.inside, c.args.t.now.within.known, c.args.t.now.within.sound.few)
+each-overflow_add-cases t c = omega (arith, (pop_few c.loop-top.invariant c.loop-top-test.true c.args.t.now.part.n (omega (arith, c.args.t.now.within.inside))).1, (c.from-cases.ensures ∙ c.is_case.ensures), (element_few c.element-e.result).1, c.args.t.now.within.inside, c.args.t.now.within.known, c.args.t.now.within.sound.few)
 
 pub each-loop-top-preserved : goal.each-loop-top-preserved
-each-loop-top-preserved t c = pop_again c.loop-top.invariant c.one-cur.new.scratch c.loop-top-test.true c.one-cur.ensures c.element-e.ensures (ap (λ (k : ℕ). c.loop-top.seen + k) c.is_labelled-seen.ensures) (ap (λ (k : ℕ). c.loop-top.cases + k) c.is_case-cases.ensures) c.one-cur.auto.list c.one-cur.auto.scratch
+each-loop-top-preserved t c = pop_again c.loop-top.invariant c.one-cur.new.scratch c.loop-top-test.true c.one-cur.ensures c.element-e.ensures (ap (λ (k : ℕ). c.loop-top.seen + k) (c.from-seen.ensures ∙ c.is_labelled.ensures)) (ap (λ (k : ℕ). c.loop-top.cases + k) (c.from-cases.ensures ∙ c.is_case.ensures)) c.one-cur.auto.list c.one-cur.auto.scratch
 
 pub each-shape_of-list : goal.each-shape_of-list
 each-shape_of-list t c = c.loop-top.invariant.list
@@ -286,19 +284,16 @@ for_expr-for_constant-requires t c = record {
 }
 
 pub for_expr-each-b1-requires : goal.for_expr-each-b1-requires
-for_expr-each-b1-requires t c = (omega (arith, c.decreases, c.requires.fits, (is_node _ _ _ c.args.t.now.within c.node-node.ensures.node).apart, (is_node _ _ _ c.args.t.now.within c.node-node.ensures.node).real, field_live c.node-node.result.root (sym c.shape_of-s.ensures ∙ c.in-Field.is)), (record { fits = omega (arith, c.decreases, c.requires.fits, (is_node _ _ _ c.args.t.now.within c.node-node.ensures.node).apart, (is_node _ _ _ c.args.t.now.within c.node-node.ensures.node).real, field_live c.node-node.result.root (sym c.shape_of-s.ensures ∙ c.in-Field.is)); fine = c.requires.fine; named = rw c.node-node.ensures.children c.requires.named }, omega (arith, c.decreases, c.requires.fits, (is_node _ _ _ c.args.t.now.within c.node-node.ensures.node).apart, (is_node _ _ _ c.args.t.now.within c.node-node.ensures.node).real, field_live c.node-node.result.root (sym c.shape_of-s.ensures ∙ c.in-Field.is), c.args.t.now.within.known, c.args.t.now.within.sound.few, c.args.t.now.within.inside)))
+for_expr-each-b1-requires t c = (omega (arith, c.decreases, c.requires.fits, (is_node _ _ _ c.args.t.now.within c.node-node.ensures.node).apart, (is_node _ _ _ c.args.t.now.within c.node-node.ensures.node).real, field_live c.node-node.result.root (sym c.from.ensures ∙ c.in-Field.is)), (record { fits = omega (arith, c.decreases, c.requires.fits, (is_node _ _ _ c.args.t.now.within c.node-node.ensures.node).apart, (is_node _ _ _ c.args.t.now.within c.node-node.ensures.node).real, field_live c.node-node.result.root (sym c.from.ensures ∙ c.in-Field.is)); fine = c.requires.fine; named = rw c.node-node.ensures.children c.requires.named }, omega (arith, c.decreases, c.requires.fits, (is_node _ _ _ c.args.t.now.within c.node-node.ensures.node).apart, (is_node _ _ _ c.args.t.now.within c.node-node.ensures.node).real, field_live c.node-node.result.root (sym c.from.ensures ∙ c.in-Field.is), c.args.t.now.within.known, c.args.t.now.within.sound.few, c.args.t.now.within.inside)))
 
 pub for_expr-gen_expr-b1-requires : goal.for_expr-gen_expr-b1-requires
 for_expr-gen_expr-b1-requires t c = (omega (arith, c.decreases, c.requires.fits, (is_node _ _ _ c.args.t.now.within c.node-node.ensures.node).apart, (is_node _ _ _ c.args.t.now.within c.node-node.ensures.node).real), record { fits = omega (arith, c.decreases, c.requires.fits, (is_node _ _ _ c.args.t.now.within c.node-node.ensures.node).apart, (is_node _ _ _ c.args.t.now.within c.node-node.ensures.node).real); fine = c.requires.fine; named = c.requires.named })
-
-pub for_expr-gen_expr-b1-requires-in-Other : goal.for_expr-gen_expr-b1-requires-in-Other
-for_expr-gen_expr-b1-requires-in-Other t c = (omega (arith, c.decreases, c.requires.fits, (is_node _ _ _ c.args.t.now.within c.node-node.ensures.node).apart, (is_node _ _ _ c.args.t.now.within c.node-node.ensures.node).real), record { fits = omega (arith, c.decreases, c.requires.fits, (is_node _ _ _ c.args.t.now.within c.node-node.ensures.node).apart, (is_node _ _ _ c.args.t.now.within c.node-node.ensures.node).real); fine = c.requires.fine; named = c.requires.named })
 
 pub for_expr-shape_of-list-in-Constant : goal.for_expr-shape_of-list-in-Constant
 for_expr-shape_of-list-in-Constant t c = c.for_constant.auto.list
 
 pub for_expr-returns-in-Constant : goal.for_expr-returns-in-Constant
-for_expr-returns-in-Constant t c = rw (access_at (is_node _ _ _ c.args.t.now.within c.node-node.ensures.node), ← shape_is (file_of c.args.t.now) c.node-node.result.root, ← c.shape_of-s.ensures, c.in-Constant.is) (c.for_constant.ensures c.args.t.now.within.sound.short (shape_named (file_of c.args.t.now) c.node-node.result.number c.node-node.result.root (is_node _ _ _ c.args.t.now.within c.node-node.ensures.node).named _ (sym c.shape_of-s.ensures ∙ c.in-Constant.is)))
+for_expr-returns-in-Constant t c = rw (access_at (is_node _ _ _ c.args.t.now.within c.node-node.ensures.node), ← shape_is (file_of c.args.t.now) c.node-node.result.root, ← c.from.ensures, c.in-Constant.is) (c.for_constant.ensures c.args.t.now.within.sound.short (shape_named (file_of c.args.t.now) c.node-node.result.number c.node-node.result.root (is_node _ _ _ c.args.t.now.within c.node-node.ensures.node).named _ (sym c.from.ensures ∙ c.in-Constant.is)))
 
 pub for_expr-shape_of-list-in-Field : goal.for_expr-shape_of-list-in-Field
 for_expr-shape_of-list-in-Field t c = c.each-b1.auto.list
@@ -307,7 +302,7 @@ pub for_expr-shape_of-scratch-in-Field : goal.for_expr-shape_of-scratch-in-Field
 for_expr-shape_of-scratch-in-Field t c = c.each-b1.auto.scratch
 
 pub for_expr-returns-in-Field : goal.for_expr-returns-in-Field
-for_expr-returns-in-Field t c = rw (access_at (is_node _ _ _ c.args.t.now.within c.node-node.ensures.node), ← shape_is (file_of c.args.t.now) c.node-node.result.root, ← c.shape_of-s.ensures, c.in-Field.is) (object_access_arm c.args.t.now.script.layout c.node-node.result.children.part (loop_of c.no_loop-idle.result) (rw c.node-node.ensures.children at c.each-b1.ensures))
+for_expr-returns-in-Field t c = rw (access_at (is_node _ _ _ c.args.t.now.within c.node-node.ensures.node), ← shape_is (file_of c.args.t.now) c.node-node.result.root, ← c.from.ensures, c.in-Field.is) (object_access_arm c.args.t.now.script.layout c.node-node.result.children.part (loop_of c.no_loop-idle.result) (rw c.node-node.ensures.children at c.each-b1.ensures))
 
 pub for_expr-shape_of-list-in-NamedFunction : goal.for_expr-shape_of-list-in-NamedFunction
 for_expr-shape_of-list-in-NamedFunction t c = c.gen_expr-b1.auto.list
@@ -316,16 +311,7 @@ pub for_expr-shape_of-scratch-in-NamedFunction : goal.for_expr-shape_of-scratch-
 for_expr-shape_of-scratch-in-NamedFunction t c = c.gen_expr-b1.auto.scratch
 
 pub for_expr-returns-in-NamedFunction : goal.for_expr-returns-in-NamedFunction
-for_expr-returns-in-NamedFunction t c = rw (access_at (is_node _ _ _ c.args.t.now.within c.node-node.ensures.node), ← shape_is (file_of c.args.t.now) c.node-node.result.root, ← c.shape_of-s.ensures, c.in-NamedFunction.is) (direct_arm c.args.t.now.script.layout c.args.t.now.part ((kid_at (file_of c.args.t.now) c.args.t.now.part 0).gen_expr false) c.gen_expr-b1.ensures c.gen_expr-b1.ensures.fine)
-
-pub for_expr-shape_of-list-in-Other : goal.for_expr-shape_of-list-in-Other
-for_expr-shape_of-list-in-Other t c = c.gen_expr-b1-in-Other.auto.list
-
-pub for_expr-shape_of-scratch-in-Other : goal.for_expr-shape_of-scratch-in-Other
-for_expr-shape_of-scratch-in-Other t c = c.gen_expr-b1-in-Other.auto.scratch
-
-pub for_expr-returns-in-Other : goal.for_expr-returns-in-Other
-for_expr-returns-in-Other t c = rw (access_at (is_node _ _ _ c.args.t.now.within c.node-node.ensures.node), ← shape_is (file_of c.args.t.now) c.node-node.result.root, ← c.shape_of-s.ensures, c.in-Other.is) (direct_arm c.args.t.now.script.layout c.args.t.now.part ((kid_at (file_of c.args.t.now) c.args.t.now.part 0).gen_expr false) c.gen_expr-b1-in-Other.ensures c.gen_expr-b1-in-Other.ensures.fine)
+for_expr-returns-in-NamedFunction t c = rw (access_at (is_node _ _ _ c.args.t.now.within c.node-node.ensures.node), ← shape_is (file_of c.args.t.now) c.node-node.result.root, ← c.from.ensures, plain_access _ c.in-NamedFunction.is) (direct_arm c.args.t.now.script.layout c.args.t.now.part ((kid_at (file_of c.args.t.now) c.args.t.now.part 0).gen_expr false) c.gen_expr-b1.ensures c.gen_expr-b1.ensures.fine)
 
 pub gen_binary_op-each-b1-requires : goal.gen_binary_op-each-b1-requires
 gen_binary_op-each-b1-requires t c = (omega (arith, c.decreases, c.requires.fits, c.kid-left.ensures.kid.fewer), (record { fits = omega (arith, c.decreases, c.requires.fits, c.kid-left.ensures.kid.fewer); fine = c.requires.fine; named = c.requires.named }, omega (arith, c.decreases, c.requires.fits, c.kid-left.ensures.kid.fewer, c.args.t.now.within.known, c.args.t.now.within.sound.few, c.args.t.now.within.inside)))
@@ -409,7 +395,7 @@ pub gen_binary_op-shape_of-scratch-in-Trivial : goal.gen_binary_op-shape_of-scra
 gen_binary_op-shape_of-scratch-in-Trivial t c = c.each-b1.auto.scratch
 
 pub gen_binary_op-returns-in-Trivial : goal.gen_binary_op-returns-in-Trivial
-gen_binary_op-returns-in-Trivial t c = rw (← c.plan_of-how.ensures, c.in-Trivial.is) (trivial_arm c.args.t.now.script.layout c.args.t.now.part (loop_of c.no_loop-idle.result) _ c.each-b1.ensures (c.action.ensures (file_of c.args.t.now)))
+gen_binary_op-returns-in-Trivial t c = rw (← c.from.ensures, c.in-Trivial.is) (trivial_arm c.args.t.now.script.layout c.args.t.now.part (loop_of c.no_loop-idle.result) _ c.each-b1.ensures (c.action.ensures (file_of c.args.t.now)))
 
 pub gen_binary_op-shape_of-list-in-TrivialNot : goal.gen_binary_op-shape_of-list-in-TrivialNot
 gen_binary_op-shape_of-list-in-TrivialNot t c = c.action-in-TrivialNot.auto.list ∙ c.action-b2.auto.list ∙ c.each-b1-in-TrivialNot.auto.list
@@ -418,7 +404,7 @@ pub gen_binary_op-shape_of-scratch-in-TrivialNot : goal.gen_binary_op-shape_of-s
 gen_binary_op-shape_of-scratch-in-TrivialNot t c = c.each-b1-in-TrivialNot.auto.scratch
 
 pub gen_binary_op-returns-in-TrivialNot : goal.gen_binary_op-returns-in-TrivialNot
-gen_binary_op-returns-in-TrivialNot t c = rw (← c.plan_of-how.ensures, c.in-TrivialNot.is) (trivial_not_arm c.args.t.now.script.layout c.args.t.now.part (loop_of c.no_loop-idle-in-TrivialNot.result) _ c.each-b1-in-TrivialNot.ensures (c.action-b2.ensures (file_of c.args.t.now)) (c.action-in-TrivialNot.ensures (file_of c.args.t.now)))
+gen_binary_op-returns-in-TrivialNot t c = rw (← c.from.ensures, c.in-TrivialNot.is) (trivial_not_arm c.args.t.now.script.layout c.args.t.now.part (loop_of c.no_loop-idle-in-TrivialNot.result) _ c.each-b1-in-TrivialNot.ensures (c.action-b2.ensures (file_of c.args.t.now)) (c.action-in-TrivialNot.ensures (file_of c.args.t.now)))
 
 pub gen_binary_op-shape_of-list-in-TrivialAssign : goal.gen_binary_op-shape_of-list-in-TrivialAssign
 gen_binary_op-shape_of-list-in-TrivialAssign t c = c.assign_value.auto.list ∙ c.action-b3.auto.list ∙ c.each-b2.auto.list ∙ c.for_expr-a.auto.list
@@ -427,7 +413,7 @@ pub gen_binary_op-shape_of-scratch-in-TrivialAssign : goal.gen_binary_op-shape_o
 gen_binary_op-shape_of-scratch-in-TrivialAssign t c = c.each-b2.auto.scratch ∙ c.for_expr-a.auto.scratch
 
 pub gen_binary_op-returns-in-TrivialAssign : goal.gen_binary_op-returns-in-TrivialAssign
-gen_binary_op-returns-in-TrivialAssign t c = rw (← c.plan_of-how.ensures, c.in-TrivialAssign.is) (trivial_assign_arm c.args.t.now.script.layout c.args.t.now.part (loop_of c.no_loop-idle-in-TrivialAssign.result) _ c.args.discard c.kid-left.ensures.kid (rw c.kid-left.ensures.script at c.for_expr-a.ensures) c.each-b2.ensures (c.action-b3.ensures (file_of c.args.t.now)) (c.assign_value.ensures (file_of c.args.t.now)))
+gen_binary_op-returns-in-TrivialAssign t c = rw (← c.from.ensures, c.in-TrivialAssign.is) (trivial_assign_arm c.args.t.now.script.layout c.args.t.now.part (loop_of c.no_loop-idle-in-TrivialAssign.result) _ c.args.discard c.kid-left.ensures.kid (rw c.kid-left.ensures.script at c.for_expr-a.ensures) c.each-b2.ensures (c.action-b3.ensures (file_of c.args.t.now)) (c.assign_value.ensures (file_of c.args.t.now)))
 
 pub gen_binary_op-shape_of-list-in-Assign : goal.gen_binary_op-shape_of-list-in-Assign
 gen_binary_op-shape_of-list-in-Assign t c = c.assign_value-in-Assign.auto.list ∙ c.gen_expr-b2.auto.list ∙ c.for_expr-a-in-Assign.auto.list
@@ -436,7 +422,7 @@ pub gen_binary_op-shape_of-scratch-in-Assign : goal.gen_binary_op-shape_of-scrat
 gen_binary_op-shape_of-scratch-in-Assign t c = c.gen_expr-b2.auto.scratch ∙ c.for_expr-a-in-Assign.auto.scratch
 
 pub gen_binary_op-returns-in-Assign : goal.gen_binary_op-returns-in-Assign
-gen_binary_op-returns-in-Assign t c = rw (← c.plan_of-how.ensures, c.in-Assign.is) (assign_arm c.args.t.now.script.layout c.args.t.now.part c.args.discard c.kid-left.ensures.kid (rw c.kid-left.ensures.script at c.for_expr-a-in-Assign.ensures) c.gen_expr-b2.ensures (c.assign_value-in-Assign.ensures (file_of c.args.t.now)))
+gen_binary_op-returns-in-Assign t c = rw (← c.from.ensures, c.in-Assign.is) (assign_arm c.args.t.now.script.layout c.args.t.now.part c.args.discard c.kid-left.ensures.kid (rw c.kid-left.ensures.script at c.for_expr-a-in-Assign.ensures) c.gen_expr-b2.ensures (c.assign_value-in-Assign.ensures (file_of c.args.t.now)))
 
 pub gen_binary_op-shape_of-list-in-LogicalAnd : goal.gen_binary_op-shape_of-list-in-LogicalAnd
 gen_binary_op-shape_of-list-in-LogicalAnd t c = c.mark_label.auto.list ∙ c.gen_expr-b7.auto.list ∙ c.action-b6.auto.list ∙ c.branch-b5.auto.list ∙ c.action-b4.auto.list ∙ c.action-b3-in-LogicalAnd.auto.list ∙ c.gen_expr-b2-in-LogicalAnd.auto.list
@@ -445,7 +431,7 @@ pub gen_binary_op-shape_of-scratch-in-LogicalAnd : goal.gen_binary_op-shape_of-s
 gen_binary_op-shape_of-scratch-in-LogicalAnd t c = c.gen_expr-b7.auto.scratch ∙ c.gen_expr-b2-in-LogicalAnd.auto.scratch
 
 pub gen_binary_op-returns-in-LogicalAnd : goal.gen_binary_op-returns-in-LogicalAnd
-gen_binary_op-returns-in-LogicalAnd t c = rw (← c.plan_of-how.ensures, c.in-LogicalAnd.is) (and_arm c.args.t.now.script.layout c.args.t.now.part c.kid-left.ensures.kid c.args.discard (c.create_label-b1.ensures (file_of c.args.t.now) _ c.requires.fine) (rw c.kid-left.ensures.script at c.gen_expr-b2-in-LogicalAnd.ensures) (c.action-b3-in-LogicalAnd.ensures (file_of c.args.t.now)) (c.action-b4.ensures (file_of c.args.t.now)) (c.branch-b5.ensures (file_of c.args.t.now)) (c.action-b6.ensures (file_of c.args.t.now)) c.gen_expr-b7.ensures (c.mark_label.ensures (file_of c.args.t.now)))
+gen_binary_op-returns-in-LogicalAnd t c = rw (← c.from.ensures, c.in-LogicalAnd.is) (and_arm c.args.t.now.script.layout c.args.t.now.part c.kid-left.ensures.kid c.args.discard (c.create_label-b1.ensures (file_of c.args.t.now) _ c.requires.fine) (rw c.kid-left.ensures.script at c.gen_expr-b2-in-LogicalAnd.ensures) (c.action-b3-in-LogicalAnd.ensures (file_of c.args.t.now)) (c.action-b4.ensures (file_of c.args.t.now)) (c.branch-b5.ensures (file_of c.args.t.now)) (c.action-b6.ensures (file_of c.args.t.now)) c.gen_expr-b7.ensures (c.mark_label.ensures (file_of c.args.t.now)))
 
 pub gen_binary_op-shape_of-list-in-LogicalOr : goal.gen_binary_op-shape_of-list-in-LogicalOr
 gen_binary_op-shape_of-list-in-LogicalOr t c = c.mark_label-in-LogicalOr.auto.list ∙ c.gen_expr-b6.auto.list ∙ c.action-b5.auto.list ∙ c.branch-b4.auto.list ∙ c.action-b3-in-LogicalOr.auto.list ∙ c.gen_expr-b2-in-LogicalOr.auto.list
@@ -454,7 +440,7 @@ pub gen_binary_op-shape_of-scratch-in-LogicalOr : goal.gen_binary_op-shape_of-sc
 gen_binary_op-shape_of-scratch-in-LogicalOr t c = c.gen_expr-b6.auto.scratch ∙ c.gen_expr-b2-in-LogicalOr.auto.scratch
 
 pub gen_binary_op-returns-in-LogicalOr : goal.gen_binary_op-returns-in-LogicalOr
-gen_binary_op-returns-in-LogicalOr t c = rw (← c.plan_of-how.ensures, c.in-LogicalOr.is) (or_arm c.args.t.now.script.layout c.args.t.now.part c.kid-left.ensures.kid c.args.discard (c.create_label-b1-in-LogicalOr.ensures (file_of c.args.t.now) _ c.requires.fine) (rw c.kid-left.ensures.script at c.gen_expr-b2-in-LogicalOr.ensures) (c.action-b3-in-LogicalOr.ensures (file_of c.args.t.now)) (c.branch-b4.ensures (file_of c.args.t.now)) (c.action-b5.ensures (file_of c.args.t.now)) c.gen_expr-b6.ensures (c.mark_label-in-LogicalOr.ensures (file_of c.args.t.now)))
+gen_binary_op-returns-in-LogicalOr t c = rw (← c.from.ensures, c.in-LogicalOr.is) (or_arm c.args.t.now.script.layout c.args.t.now.part c.kid-left.ensures.kid c.args.discard (c.create_label-b1-in-LogicalOr.ensures (file_of c.args.t.now) _ c.requires.fine) (rw c.kid-left.ensures.script at c.gen_expr-b2-in-LogicalOr.ensures) (c.action-b3-in-LogicalOr.ensures (file_of c.args.t.now)) (c.branch-b4.ensures (file_of c.args.t.now)) (c.action-b5.ensures (file_of c.args.t.now)) c.gen_expr-b6.ensures (c.mark_label-in-LogicalOr.ensures (file_of c.args.t.now)))
 
 pub gen_call-args-b1-requires : goal.gen_call-args-b1-requires
 gen_call-args-b1-requires t c = (omega (arith, c.decreases, c.requires.fits, c.kid-name.ensures.kid.fewer, c.list-es.ensures.list.fewer), (record { fits = omega (arith, c.decreases, c.requires.fits, c.kid-name.ensures.kid.fewer, c.list-es.ensures.list.fewer); fine = c.requires.fine; named = rw c.list-es.ensures.script c.requires.named }, c.width-n.ensures))
@@ -576,11 +562,8 @@ gen_expr-for_expr-a-requires t c = (omega (arith, c.decreases, c.requires.fits, 
 pub gen_expr-delete-requires : goal.gen_expr-delete-requires
 gen_expr-delete-requires t c = c.for_expr-a.ensures.fine
 
-pub gen_expr-leaves_value-up-requires : goal.gen_expr-leaves_value-up-requires
-gen_expr-leaves_value-up-requires t c = c.args.t.now.within.layout
-
 pub gen_expr-gen_function-requires : goal.gen_expr-gen_function-requires
-gen_expr-gen_function-requires t c = (omega (arith, c.decreases, c.requires.fits, (is_node _ _ _ c.args.t.now.within c.node-node.ensures.node).apart, (is_node _ _ _ c.args.t.now.within c.node-node.ensures.node).real, ap live c.in-Expr.is), (record { fits = omega (arith, c.decreases, c.requires.fits, (is_node _ _ _ c.args.t.now.within c.node-node.ensures.node).apart, (is_node _ _ _ c.args.t.now.within c.node-node.ensures.node).real, ap live c.in-Expr.is); fine = c.requires.fine; named = rw c.node-node.ensures.children c.requires.named }, (omega (arith, number_less (file_of c.args.t.now) _ (rw (c.in-Expr.is, c.in-Function.is) at (is_node _ _ _ c.args.t.now.within c.node-node.ensures.node).named), c.args.t.now.within.sound.few), c.leaves_value-up.ensures.0)))
+gen_expr-gen_function-requires t c = (omega (arith, c.decreases, c.requires.fits, (is_node _ _ _ c.args.t.now.within c.node-node.ensures.node).apart, (is_node _ _ _ c.args.t.now.within c.node-node.ensures.node).real, ap live c.in-Expr.is), (record { fits = omega (arith, c.decreases, c.requires.fits, (is_node _ _ _ c.args.t.now.within c.node-node.ensures.node).apart, (is_node _ _ _ c.args.t.now.within c.node-node.ensures.node).real, ap live c.in-Expr.is); fine = c.requires.fine; named = rw c.node-node.ensures.children c.requires.named }, (omega (arith, number_less (file_of c.args.t.now) _ (rw (c.in-Expr.is, c.in-Function.is) at (is_node _ _ _ c.args.t.now.within c.node-node.ensures.node).named), c.args.t.now.within.sound.few), rw c.from.ensures (bool_small _))))
 
 pub gen_expr-goto-requires : goal.gen_expr-goto-requires
 gen_expr-goto-requires t c = (omega (arith, c.decreases, c.requires.fits, (is_node _ _ _ c.args.t.now.within c.node-node.ensures.node).apart, (is_node _ _ _ c.args.t.now.within c.node-node.ensures.node).real, ap live c.in-Expr.is), record { fits = omega (arith, c.decreases, c.requires.fits, (is_node _ _ _ c.args.t.now.within c.node-node.ensures.node).apart, (is_node _ _ _ c.args.t.now.within c.node-node.ensures.node).real, ap live c.in-Expr.is); fine = c.requires.fine; named = rw c.node-node.ensures.children c.requires.named })
@@ -727,7 +710,7 @@ pub gen_expr-shape_of-scratch-in-Function : goal.gen_expr-shape_of-scratch-in-Fu
 gen_expr-shape_of-scratch-in-Function t c = c.gen_function.auto.scratch
 
 pub gen_expr-returns-in-Function : goal.gen_expr-returns-in-Function
-gen_expr-returns-in-Function t c = rw (function_at (is_node _ _ _ c.args.t.now.within c.node-node.ensures.node) (rw c.in-Function.is at c.in-Expr.is) c.args.discard) ((rw c.node-node.ensures.children at c.gen_function.ensures) (rw (c.in-Expr.is, c.in-Function.is) at (is_node _ _ _ c.args.t.now.within c.node-node.ensures.node).named) (function_size (is_node _ _ _ c.args.t.now.within c.node-node.ensures.node) (rw c.in-Function.is at c.in-Expr.is) _ c.leaves_value-up.ensures.1 c.args.b.size))
+gen_expr-returns-in-Function t c = rw (function_at (is_node _ _ _ c.args.t.now.within c.node-node.ensures.node) (rw c.in-Function.is at c.in-Expr.is) c.args.discard) ((rw c.node-node.ensures.children at c.gen_function.ensures) (rw (c.in-Expr.is, c.in-Function.is) at (is_node _ _ _ c.args.t.now.within c.node-node.ensures.node).named) (function_size (is_node _ _ _ c.args.t.now.within c.node-node.ensures.node) (rw c.in-Function.is at c.in-Expr.is) _ (λ z. rw c.from.ensures (c.leaves_value-up.ensures z)) c.args.b.size))
 
 pub gen_expr-shape_of-list-in-GotoFrame : goal.gen_expr-shape_of-list-in-GotoFrame
 gen_expr-shape_of-list-in-GotoFrame t c = c.goto.auto.list
@@ -754,7 +737,7 @@ pub gen_expr-shape_of-scratch-in-GetProperty : goal.gen_expr-shape_of-scratch-in
 gen_expr-shape_of-scratch-in-GetProperty t c = c.gen_expr-b1-in-GetProperty.auto.scratch
 
 pub gen_expr-returns-in-GetProperty : goal.gen_expr-returns-in-GetProperty
-gen_expr-returns-in-GetProperty t c = rw (expr_at (is_node _ _ _ c.args.t.now.within c.node-node.ensures.node) c.args.discard c.in-Expr.is, c.in-GetProperty.is) (get_property_arm c.args.t.now.script.layout c.node-node.result.children.part (unsigned c.in-GetProperty.n) (rw c.node-node.ensures.children at c.gen_expr-b1-in-GetProperty.ensures) (rw (ap unsigned (to_z-of_z w32 c.in-GetProperty.n (record { sfits = c.in-GetProperty.known_told-in-Expr-8-1-own.given.0.1 }))) at (c.push-b2.ensures (file_of c.args.t.now) tt)) (c.action-in-GetProperty.ensures (file_of c.args.t.now)))
+gen_expr-returns-in-GetProperty t c = rw (expr_at (is_node _ _ _ c.args.t.now.within c.node-node.ensures.node) c.args.discard c.in-Expr.is, c.in-GetProperty.is) (get_property_arm c.args.t.now.script.layout c.node-node.result.children.part (unsigned c.in-GetProperty.n) (rw c.node-node.ensures.children at c.gen_expr-b1-in-GetProperty.ensures) (rw (ap unsigned (to_z-of_z w32 c.in-GetProperty.n (search rules))) at (c.push-b2.ensures (file_of c.args.t.now) tt)) (c.action-in-GetProperty.ensures (file_of c.args.t.now)))
 
 pub gen_expr-shape_of-list-in-SetProperty : goal.gen_expr-shape_of-list-in-SetProperty
 gen_expr-shape_of-list-in-SetProperty t c = c.action-in-SetProperty.auto.list ∙ c.gen_expr-b3.auto.list ∙ c.push-b2-in-SetProperty.auto.list ∙ c.gen_expr-b1-in-SetProperty.auto.list
@@ -977,14 +960,8 @@ gen_statement-gen_expr-b1-requires t c = (omega (arith, c.decreases, c.requires.
 pub gen_statement-truncate_stack-requires : goal.gen_statement-truncate_stack-requires
 gen_statement-truncate_stack-requires t c = c.gen_expr-b1.ensures.fine
 
-pub gen_statement-innermost-part-requires : goal.gen_statement-innermost-part-requires
-gen_statement-innermost-part-requires t c = c.list-body.result.within
-
-pub gen_statement-invariant_of-inner : goal.gen_statement-invariant_of-inner
-gen_statement-invariant_of-inner t c = record { within = (rw (c.list-body.ensures.script ∙ c.node-node.ensures.children) at c.innermost-part.ensures).within }
-
 pub gen_statement-gen_statements-b1-requires : goal.gen_statement-gen_statements-b1-requires
-gen_statement-gen_statements-b1-requires t c = (omega (arith, c.decreases, c.requires.fits, (is_node _ _ _ c.args.t.now.within c.node-node.ensures.node).apart, (is_node _ _ _ c.args.t.now.within c.node-node.ensures.node).real, ap live c.in-Statement.is, c.list-body.ensures.list.fewer, c.innermost-part.ensures.fewer), record { fits = omega (arith, c.decreases, c.requires.fits, (is_node _ _ _ c.args.t.now.within c.node-node.ensures.node).apart, (is_node _ _ _ c.args.t.now.within c.node-node.ensures.node).real, ap live c.in-Statement.is, c.list-body.ensures.list.fewer, c.innermost-part.ensures.fewer); fine = c.requires.fine; named = c.requires.named })
+gen_statement-gen_statements-b1-requires t c = (omega (arith, c.decreases, c.requires.fits, (is_node _ _ _ c.args.t.now.within c.node-node.ensures.node).apart, (is_node _ _ _ c.args.t.now.within c.node-node.ensures.node).real, ap live c.in-Statement.is, c.list-body.ensures.list.fewer, c.innermost-inner.ensures.innermost.fewer), record { fits = omega (arith, c.decreases, c.requires.fits, (is_node _ _ _ c.args.t.now.within c.node-node.ensures.node).apart, (is_node _ _ _ c.args.t.now.within c.node-node.ensures.node).real, ap live c.in-Statement.is, c.list-body.ensures.list.fewer, c.innermost-inner.ensures.innermost.fewer); fine = c.requires.fine; named = rw (c.innermost-inner.ensures.script ∙ c.list-body.ensures.script ∙ c.node-node.ensures.children) c.requires.named })
 
 pub gen_statement-truncate_stack-requires-in-Block : goal.gen_statement-truncate_stack-requires-in-Block
 gen_statement-truncate_stack-requires-in-Block t c = c.gen_statements-b1.ensures.fine
@@ -1047,7 +1024,7 @@ pub gen_statement-shape_of-scratch-in-Block : goal.gen_statement-shape_of-scratc
 gen_statement-shape_of-scratch-in-Block t c = c.gen_statements-b1.auto.scratch
 
 pub gen_statement-returns-in-Block : goal.gen_statement-returns-in-Block
-gen_statement-returns-in-Block t c = rw (statement_at (is_node _ _ _ c.args.t.now.within c.node-node.ensures.node) (loop_of c.args.lp) c.in-Statement.is, c.in-Block.is) (block_arm c.args.t.now.script.layout c.node-node.result.children.part (loop_of c.args.lp) (rw c.node-node.ensures.children at c.list-body.ensures.list) (rw (c.list-body.ensures.script ∙ c.node-node.ensures.children) at c.innermost-part.ensures) c.gen_statements-b1.ensures (c.truncate_stack-in-Block.ensures (file_of c.args.t.now)))
+gen_statement-returns-in-Block t c = rw (statement_at (is_node _ _ _ c.args.t.now.within c.node-node.ensures.node) (loop_of c.args.lp) c.in-Statement.is, c.in-Block.is) (block_arm c.args.t.now.script.layout c.node-node.result.children.part (loop_of c.args.lp) (rw c.node-node.ensures.children at c.list-body.ensures.list) (rw (c.list-body.ensures.script ∙ c.node-node.ensures.children) at c.innermost-inner.ensures.innermost) (rw (c.innermost-inner.ensures.script ∙ c.list-body.ensures.script ∙ c.node-node.ensures.children) at c.gen_statements-b1.ensures) (c.truncate_stack-in-Block.ensures (file_of c.args.t.now)))
 
 pub gen_statement-shape_of-list-in-ForIn : goal.gen_statement-shape_of-list-in-ForIn
 gen_statement-shape_of-list-in-ForIn t c = c.gen_for_loop.auto.list
@@ -1096,9 +1073,6 @@ gen_statement-shape_of-scratch-in-Switch t c = c.gen_switch.auto.scratch
 
 pub gen_statement-returns-in-Switch : goal.gen_statement-returns-in-Switch
 gen_statement-returns-in-Switch t c = rw (statement_at (is_node _ _ _ c.args.t.now.within c.node-node.ensures.node) (loop_of c.args.lp) c.in-Statement.is, c.in-Switch.is) (rw c.node-node.ensures.children at c.gen_switch.ensures)
-
-pub gen_statements-has_hoisted-requires : goal.gen_statements-has_hoisted-requires
-gen_statements-has_hoisted-requires t c = c.args.t.now.within
 
 pub gen_statements-each-requires : goal.gen_statements-each-requires
 gen_statements-each-requires t c = (omega (arith, c.decreases, c.requires.fits), (record { fits = omega (arith, c.decreases, c.requires.fits); fine = c.requires.fine; named = c.requires.named }, omega (arith, c.decreases, c.requires.fits, c.args.t.now.within.known, c.args.t.now.within.sound.few, c.args.t.now.within.inside)))
@@ -1229,15 +1203,6 @@ gen_unary_op-gen_expr-b2-requires t c = (omega (arith, c.decreases, c.requires.f
 pub gen_unary_op-action-requires : goal.gen_unary_op-action-requires
 gen_unary_op-action-requires t c = c.gen_expr-b2.ensures.fine
 
-pub gen_unary_op-push-b1-requires-in-NoLiteral : goal.gen_unary_op-push-b1-requires-in-NoLiteral
-gen_unary_op-push-b1-requires-in-NoLiteral t c = c.requires.fine
-
-pub gen_unary_op-gen_expr-b2-requires-in-NoLiteral : goal.gen_unary_op-gen_expr-b2-requires-in-NoLiteral
-gen_unary_op-gen_expr-b2-requires-in-NoLiteral t c = (omega (arith, c.decreases, c.requires.fits, (is_node _ _ _ c.args.t.now.within c.node-node.ensures.node).apart, (is_node _ _ _ c.args.t.now.within c.node-node.ensures.node).real, rank_most c.args.discard), record { fits = omega (arith, c.decreases, c.requires.fits, (is_node _ _ _ c.args.t.now.within c.node-node.ensures.node).apart, (is_node _ _ _ c.args.t.now.within c.node-node.ensures.node).real, rank_most c.args.discard); fine = (c.push-b1-in-NoLiteral.ensures (file_of c.args.t.now) tt).fine; named = ((c.push-b1-in-NoLiteral.ensures (file_of c.args.t.now) tt).named c.requires.named) })
-
-pub gen_unary_op-action-requires-in-NoLiteral : goal.gen_unary_op-action-requires-in-NoLiteral
-gen_unary_op-action-requires-in-NoLiteral t c = c.gen_expr-b2-in-NoLiteral.ensures.fine
-
 pub gen_unary_op-gen_expr-requires : goal.gen_unary_op-gen_expr-requires
 gen_unary_op-gen_expr-requires t c = (omega (arith, c.decreases, c.requires.fits, rank_most c.args.discard), record { fits = omega (arith, c.decreases, c.requires.fits, rank_most c.args.discard); fine = c.requires.fine; named = c.requires.named })
 
@@ -1262,35 +1227,26 @@ gen_unary_op-adjust-requires t c = (omega (arith, c.decreases, c.requires.fits, 
 pub gen_unary_op-adjust-requires-in-Decrement : goal.gen_unary_op-adjust-requires-in-Decrement
 gen_unary_op-adjust-requires-in-Decrement t c = (omega (arith, c.decreases, c.requires.fits, rank_most c.args.discard), record { fits = omega (arith, c.decreases, c.requires.fits, rank_most c.args.discard); fine = c.requires.fine; named = c.requires.named })
 
-pub gen_unary_op-shape_of-list-in-Integer : goal.gen_unary_op-shape_of-list-in-Integer
-gen_unary_op-shape_of-list-in-Integer t c = c.negate_integer.auto.list
+pub gen_unary_op-shape_of-list-in-Some-Integer : goal.gen_unary_op-shape_of-list-in-Some-Integer
+gen_unary_op-shape_of-list-in-Some-Integer t c = c.negate_integer.auto.list
 
-pub gen_unary_op-returns-in-Integer : goal.gen_unary_op-returns-in-Integer
-gen_unary_op-returns-in-Integer t c = rw (c.in-Sub.is, literal_of (is_node _ _ _ c.args.t.now.within c.node-node.ensures.node), ← literal_is (file_of c.args.t.now) c.node-node.result.root, ← c.literal_of-c.ensures, c.in-Integer.is) (rw (ap unsigned (to_z-of_z w32 c.in-Integer.n (record { sfits = c.in-Integer.known_told-1-own.given.0.1 }))) at (c.negate_integer.ensures (file_of c.args.t.now)))
+pub gen_unary_op-returns-in-Some-Integer : goal.gen_unary_op-returns-in-Some-Integer
+gen_unary_op-returns-in-Some-Integer t c = rw (c.in-Sub.is, literal_of (is_node _ _ _ c.args.t.now.within c.node-node.ensures.node), ← literal_is (file_of c.args.t.now) c.node-node.result.root, ← c.literal_of.ensures, c.in-Some-Integer.is, c.in-Some-Integer.field-0-is) (rw (ap unsigned (to_z-of_z w32 c.in-Some-Integer.n (search rules))) at (c.negate_integer.ensures (file_of c.args.t.now)))
 
-pub gen_unary_op-shape_of-list-in-Float : goal.gen_unary_op-shape_of-list-in-Float
-gen_unary_op-shape_of-list-in-Float t c = c.negate_float.auto.list
+pub gen_unary_op-shape_of-list-in-Some-Float : goal.gen_unary_op-shape_of-list-in-Some-Float
+gen_unary_op-shape_of-list-in-Some-Float t c = c.negate_float.auto.list
 
-pub gen_unary_op-returns-in-Float : goal.gen_unary_op-returns-in-Float
-gen_unary_op-returns-in-Float t c = rw (c.in-Sub.is, literal_of (is_node _ _ _ c.args.t.now.within c.node-node.ensures.node), ← literal_is (file_of c.args.t.now) c.node-node.result.root, ← c.literal_of-c.ensures, c.in-Float.is) (c.negate_float.ensures (file_of c.args.t.now))
+pub gen_unary_op-returns-in-Some-Float : goal.gen_unary_op-returns-in-Some-Float
+gen_unary_op-returns-in-Some-Float t c = rw (c.in-Sub.is, literal_of (is_node _ _ _ c.args.t.now.within c.node-node.ensures.node), ← literal_is (file_of c.args.t.now) c.node-node.result.root, ← c.literal_of.ensures, c.in-Some-Float.is, c.in-Some-Float.field-0-is) (c.negate_float.ensures (file_of c.args.t.now))
 
-pub gen_unary_op-shape_of-list-in-String : goal.gen_unary_op-shape_of-list-in-String
-gen_unary_op-shape_of-list-in-String t c = c.action.auto.list ∙ c.gen_expr-b2.auto.list ∙ c.push-b1.auto.list
+pub gen_unary_op-shape_of-list-in-Some-String : goal.gen_unary_op-shape_of-list-in-Some-String
+gen_unary_op-shape_of-list-in-Some-String t c = c.action.auto.list ∙ c.gen_expr-b2.auto.list ∙ c.push-b1.auto.list
 
-pub gen_unary_op-shape_of-scratch-in-String : goal.gen_unary_op-shape_of-scratch-in-String
-gen_unary_op-shape_of-scratch-in-String t c = c.gen_expr-b2.auto.scratch
+pub gen_unary_op-shape_of-scratch-in-Some-String : goal.gen_unary_op-shape_of-scratch-in-Some-String
+gen_unary_op-shape_of-scratch-in-Some-String t c = c.gen_expr-b2.auto.scratch
 
-pub gen_unary_op-returns-in-String : goal.gen_unary_op-returns-in-String
-gen_unary_op-returns-in-String t c = rw (c.in-Sub.is, literal_of (is_node _ _ _ c.args.t.now.within c.node-node.ensures.node), ← literal_is (file_of c.args.t.now) c.node-node.result.root, ← c.literal_of-c.ensures, c.in-String.is) (minus_arm c.args.t.now.script.layout c.args.t.now.part (c.push-b1.ensures (file_of c.args.t.now) tt) c.gen_expr-b2.ensures (c.action.ensures (file_of c.args.t.now)))
-
-pub gen_unary_op-shape_of-list-in-NoLiteral : goal.gen_unary_op-shape_of-list-in-NoLiteral
-gen_unary_op-shape_of-list-in-NoLiteral t c = c.action-in-NoLiteral.auto.list ∙ c.gen_expr-b2-in-NoLiteral.auto.list ∙ c.push-b1-in-NoLiteral.auto.list
-
-pub gen_unary_op-shape_of-scratch-in-NoLiteral : goal.gen_unary_op-shape_of-scratch-in-NoLiteral
-gen_unary_op-shape_of-scratch-in-NoLiteral t c = c.gen_expr-b2-in-NoLiteral.auto.scratch
-
-pub gen_unary_op-returns-in-NoLiteral : goal.gen_unary_op-returns-in-NoLiteral
-gen_unary_op-returns-in-NoLiteral t c = rw (c.in-Sub.is, literal_of (is_node _ _ _ c.args.t.now.within c.node-node.ensures.node), ← literal_is (file_of c.args.t.now) c.node-node.result.root, ← c.literal_of-c.ensures, c.in-NoLiteral.is) (minus_arm c.args.t.now.script.layout c.args.t.now.part (c.push-b1-in-NoLiteral.ensures (file_of c.args.t.now) tt) c.gen_expr-b2-in-NoLiteral.ensures (c.action-in-NoLiteral.ensures (file_of c.args.t.now)))
+pub gen_unary_op-returns-in-Some-String : goal.gen_unary_op-returns-in-Some-String
+gen_unary_op-returns-in-Some-String t c = rw (c.in-Sub.is, literal_of (is_node _ _ _ c.args.t.now.within c.node-node.ensures.node), ← literal_is (file_of c.args.t.now) c.node-node.result.root, ← c.literal_of.ensures, c.in-Some-String.is, c.in-Some-String.field-0-is) (minus_arm c.args.t.now.script.layout c.args.t.now.part (c.push-b1.ensures (file_of c.args.t.now) tt) c.gen_expr-b2.ensures (c.action.ensures (file_of c.args.t.now)))
 
 pub gen_unary_op-shape_of-list-in-Add : goal.gen_unary_op-shape_of-list-in-Add
 gen_unary_op-shape_of-list-in-Add t c = c.gen_expr.auto.list
@@ -1371,13 +1327,13 @@ pub goto-goto_label-b1-requires : goal.goto-goto_label-b1-requires
 goto-goto_label-b1-requires t c = c.requires.fine
 
 pub goto-play_if-requires : goal.goto-play_if-requires
-goto-play_if-requires t c = (c.goto_label-b1.ensures (file_of c.args.t.now) (literal_named (file_of c.args.t.now) c.node-node.result.number c.node-node.result.root c.in-String.s (is_node _ _ _ c.args.t.now.within c.node-node.ensures.node).named (sym c.literal_of-c.ensures ∙ c.in-String.is))).fine
+goto-play_if-requires t c = (c.goto_label-b1.ensures (file_of c.args.t.now) (literal_named (file_of c.args.t.now) c.node-node.result.number c.node-node.result.root c.in-Some-String.s (is_node _ _ _ c.args.t.now.within c.node-node.ensures.node).named (sym c.literal_of.ensures ∙ (rw c.in-Some-String.field-0-is at c.in-Some-String.is)))).fine
 
 pub goto-goto_frame-b1-requires : goal.goto-goto_frame-b1-requires
 goto-goto_frame-b1-requires t c = c.requires.fine
 
-pub goto-play_if-requires-in-Integer : goal.goto-play_if-requires-in-Integer
-goto-play_if-requires-in-Integer t c = (c.goto_frame-b1.ensures (file_of c.args.t.now)).fine
+pub goto-play_if-requires-in-Some-Integer : goal.goto-play_if-requires-in-Some-Integer
+goto-play_if-requires-in-Some-Integer t c = (c.goto_frame-b1.ensures (file_of c.args.t.now)).fine
 
 pub goto-gen_expr-b1-requires : goal.goto-gen_expr-b1-requires
 goto-gen_expr-b1-requires t c = (omega (arith, c.decreases, c.requires.fits, (is_node _ _ _ c.args.t.now.within c.node-node.ensures.node).apart, (is_node _ _ _ c.args.t.now.within c.node-node.ensures.node).real), record { fits = omega (arith, c.decreases, c.requires.fits, (is_node _ _ _ c.args.t.now.within c.node-node.ensures.node).apart, (is_node _ _ _ c.args.t.now.within c.node-node.ensures.node).real); fine = c.requires.fine; named = c.requires.named })
@@ -1385,41 +1341,26 @@ goto-gen_expr-b1-requires t c = (omega (arith, c.decreases, c.requires.fits, (is
 pub goto-goto_frame2-requires : goal.goto-goto_frame2-requires
 goto-goto_frame2-requires t c = c.gen_expr-b1.ensures.fine
 
-pub goto-gen_expr-b1-requires-in-NoLiteral : goal.goto-gen_expr-b1-requires-in-NoLiteral
-goto-gen_expr-b1-requires-in-NoLiteral t c = (omega (arith, c.decreases, c.requires.fits, (is_node _ _ _ c.args.t.now.within c.node-node.ensures.node).apart, (is_node _ _ _ c.args.t.now.within c.node-node.ensures.node).real), record { fits = omega (arith, c.decreases, c.requires.fits, (is_node _ _ _ c.args.t.now.within c.node-node.ensures.node).apart, (is_node _ _ _ c.args.t.now.within c.node-node.ensures.node).real); fine = c.requires.fine; named = c.requires.named })
+pub goto-shape_of-list-in-Some-String : goal.goto-shape_of-list-in-Some-String
+goto-shape_of-list-in-Some-String t c = c.play_if.auto.list ∙ c.goto_label-b1.auto.list
 
-pub goto-goto_frame2-requires-in-NoLiteral : goal.goto-goto_frame2-requires-in-NoLiteral
-goto-goto_frame2-requires-in-NoLiteral t c = c.gen_expr-b1-in-NoLiteral.ensures.fine
+pub goto-returns-in-Some-String : goal.goto-returns-in-Some-String
+goto-returns-in-Some-String t c = rw (literal_of (is_node _ _ _ c.args.t.now.within c.node-node.ensures.node), ← literal_is (file_of c.args.t.now) c.node-node.result.root, ← c.literal_of.ensures, c.in-Some-String.is, c.in-Some-String.field-0-is, ← text_is (file_of c.args.t.now) c.in-Some-String.s c.args.t.now.within.sound.short) (goto_label_arm c.args.t.now.script.layout c.args.t.now.part (text_in (file_of c.args.t.now) c.in-Some-String.s) c.args.play (c.goto_label-b1.ensures (file_of c.args.t.now) (literal_named (file_of c.args.t.now) c.node-node.result.number c.node-node.result.root c.in-Some-String.s (is_node _ _ _ c.args.t.now.within c.node-node.ensures.node).named (sym c.literal_of.ensures ∙ (rw c.in-Some-String.field-0-is at c.in-Some-String.is)))) (c.play_if.ensures (file_of c.args.t.now)))
 
-pub goto-shape_of-list-in-String : goal.goto-shape_of-list-in-String
-goto-shape_of-list-in-String t c = c.play_if.auto.list ∙ c.goto_label-b1.auto.list
+pub goto-shape_of-list-in-Some-Integer : goal.goto-shape_of-list-in-Some-Integer
+goto-shape_of-list-in-Some-Integer t c = c.play_if-in-Some-Integer.auto.list ∙ c.goto_frame-b1.auto.list
 
-pub goto-returns-in-String : goal.goto-returns-in-String
-goto-returns-in-String t c = rw (literal_of (is_node _ _ _ c.args.t.now.within c.node-node.ensures.node), ← literal_is (file_of c.args.t.now) c.node-node.result.root, ← c.literal_of-c.ensures, c.in-String.is, ← text_is (file_of c.args.t.now) c.in-String.s c.args.t.now.within.sound.short) (goto_label_arm c.args.t.now.script.layout c.args.t.now.part (text_in (file_of c.args.t.now) c.in-String.s) c.args.play (c.goto_label-b1.ensures (file_of c.args.t.now) (literal_named (file_of c.args.t.now) c.node-node.result.number c.node-node.result.root c.in-String.s (is_node _ _ _ c.args.t.now.within c.node-node.ensures.node).named (sym c.literal_of-c.ensures ∙ c.in-String.is))) (c.play_if.ensures (file_of c.args.t.now)))
+pub goto-returns-in-Some-Integer : goal.goto-returns-in-Some-Integer
+goto-returns-in-Some-Integer t c = rw (literal_of (is_node _ _ _ c.args.t.now.within c.node-node.ensures.node), ← literal_is (file_of c.args.t.now) c.node-node.result.root, ← c.literal_of.ensures, c.in-Some-Integer.is, c.in-Some-Integer.field-0-is) (goto_frame_arm c.args.t.now.script.layout c.args.t.now.part (unsigned c.in-Some-Integer.n) c.args.play (rw (c.frame_of-frame.ensures, ap unsigned (to_z-of_z w32 c.in-Some-Integer.n (search rules))) at (c.goto_frame-b1.ensures (file_of c.args.t.now))) (c.play_if-in-Some-Integer.ensures (file_of c.args.t.now)))
 
-pub goto-shape_of-list-in-Integer : goal.goto-shape_of-list-in-Integer
-goto-shape_of-list-in-Integer t c = c.play_if-in-Integer.auto.list ∙ c.goto_frame-b1.auto.list
+pub goto-shape_of-list-in-Some-Float : goal.goto-shape_of-list-in-Some-Float
+goto-shape_of-list-in-Some-Float t c = c.goto_frame2.auto.list ∙ c.gen_expr-b1.auto.list
 
-pub goto-returns-in-Integer : goal.goto-returns-in-Integer
-goto-returns-in-Integer t c = rw (literal_of (is_node _ _ _ c.args.t.now.within c.node-node.ensures.node), ← literal_is (file_of c.args.t.now) c.node-node.result.root, ← c.literal_of-c.ensures, c.in-Integer.is) (goto_frame_arm c.args.t.now.script.layout c.args.t.now.part (unsigned c.in-Integer.n) c.args.play (rw (c.frame_of-frame.ensures, ap unsigned (to_z-of_z w32 c.in-Integer.n (record { sfits = c.in-Integer.known_told-in-Integer-1-own.given.0.1 }))) at (c.goto_frame-b1.ensures (file_of c.args.t.now))) (c.play_if-in-Integer.ensures (file_of c.args.t.now)))
+pub goto-shape_of-scratch-in-Some-Float : goal.goto-shape_of-scratch-in-Some-Float
+goto-shape_of-scratch-in-Some-Float t c = c.gen_expr-b1.auto.scratch
 
-pub goto-shape_of-list-in-Float : goal.goto-shape_of-list-in-Float
-goto-shape_of-list-in-Float t c = c.goto_frame2.auto.list ∙ c.gen_expr-b1.auto.list
-
-pub goto-shape_of-scratch-in-Float : goal.goto-shape_of-scratch-in-Float
-goto-shape_of-scratch-in-Float t c = c.gen_expr-b1.auto.scratch
-
-pub goto-returns-in-Float : goal.goto-returns-in-Float
-goto-returns-in-Float t c = rw (literal_of (is_node _ _ _ c.args.t.now.within c.node-node.ensures.node), ← literal_is (file_of c.args.t.now) c.node-node.result.root, ← c.literal_of-c.ensures, c.in-Float.is) (goto_arm c.args.t.now.script.layout c.args.t.now.part c.args.play c.gen_expr-b1.ensures (c.goto_frame2.ensures (file_of c.args.t.now)))
-
-pub goto-shape_of-list-in-NoLiteral : goal.goto-shape_of-list-in-NoLiteral
-goto-shape_of-list-in-NoLiteral t c = c.goto_frame2-in-NoLiteral.auto.list ∙ c.gen_expr-b1-in-NoLiteral.auto.list
-
-pub goto-shape_of-scratch-in-NoLiteral : goal.goto-shape_of-scratch-in-NoLiteral
-goto-shape_of-scratch-in-NoLiteral t c = c.gen_expr-b1-in-NoLiteral.auto.scratch
-
-pub goto-returns-in-NoLiteral : goal.goto-returns-in-NoLiteral
-goto-returns-in-NoLiteral t c = rw (literal_of (is_node _ _ _ c.args.t.now.within c.node-node.ensures.node), ← literal_is (file_of c.args.t.now) c.node-node.result.root, ← c.literal_of-c.ensures, c.in-NoLiteral.is) (goto_arm c.args.t.now.script.layout c.args.t.now.part c.args.play c.gen_expr-b1-in-NoLiteral.ensures (c.goto_frame2-in-NoLiteral.ensures (file_of c.args.t.now)))
+pub goto-returns-in-Some-Float : goal.goto-returns-in-Some-Float
+goto-returns-in-Some-Float t c = rw (literal_of (is_node _ _ _ c.args.t.now.within c.node-node.ensures.node), ← literal_is (file_of c.args.t.now) c.node-node.result.root, ← c.literal_of.ensures, c.in-Some-Float.is, c.in-Some-Float.field-0-is) (goto_arm c.args.t.now.script.layout c.args.t.now.part c.args.play c.gen_expr-b1.ensures (c.goto_frame2.ensures (file_of c.args.t.now)))
 
 pub one-gen_expr-requires : goal.one-gen_expr-requires
 one-gen_expr-requires t c = (omega (arith, c.decreases, c.requires.walk.fits), record { fits = omega (arith, c.decreases, c.requires.walk.fits); fine = c.requires.walk.fine; named = c.requires.walk.named })
@@ -1443,9 +1384,6 @@ one-gen_expr-requires-in-Field t c = (omega (arith, c.decreases, c.requires.walk
 pub one-gen_statement-requires : goal.one-gen_statement-requires
 one-gen_statement-requires t c = (omega (arith, c.decreases, c.requires.walk.fits), record { fits = omega (arith, c.decreases, c.requires.walk.fits); fine = c.requires.walk.fine; named = c.requires.walk.named })
 
-pub one-is_hoisted-requires : goal.one-is_hoisted-requires
-one-is_hoisted-requires t c = c.args.t.now.within
-
 pub one-gen_statement-requires-then-is_hoisted : goal.one-gen_statement-requires-then-is_hoisted
 one-gen_statement-requires-then-is_hoisted t c = (omega (arith, c.decreases, c.requires.walk.fits), record { fits = omega (arith, c.decreases, c.requires.walk.fits); fine = c.requires.walk.fine; named = c.requires.walk.named })
 
@@ -1457,9 +1395,6 @@ one-shape_of-scratch-then-is_hoisted t c = c.gen_statement-then-is_hoisted.auto.
 
 pub one-returns-then-is_hoisted : goal.one-returns-then-is_hoisted
 one-returns-then-is_hoisted t c = rw (c.in-Hoisted.is, ← c.is_hoisted.ensures, c.if-is_hoisted.true) c.gen_statement-then-is_hoisted.ensures
-
-pub one-is_hoisted-requires-in-Unhoisted : goal.one-is_hoisted-requires-in-Unhoisted
-one-is_hoisted-requires-in-Unhoisted t c = c.args.t.now.within
 
 pub one-returns-then-is_hoisted-2 : goal.one-returns-then-is_hoisted-2
 one-returns-then-is_hoisted-2 t c = rw (c.in-Unhoisted.is, ← c.is_hoisted-in-Unhoisted.ensures, c.if-is_hoisted-2.true) (idle c.requires.walk.fine)
@@ -1583,3 +1518,36 @@ gen_expr-returns-in_default t c = rw (no_expr (is_node _ _ _ c.args.t.now.within
 
 pub gen_statement-returns-in_default : goal.gen_statement-returns-in_default
 gen_statement-returns-in_default t c = rw (no_statement (is_node _ _ _ c.args.t.now.within c.node-node.ensures.node) (loop_of c.args.lp) c.in_default.not-Statement) (idle c.requires.fine)
+
+pub gen_unary_op-push-b1-requires-in-None : goal.gen_unary_op-push-b1-requires-in-None
+gen_unary_op-push-b1-requires-in-None t c = c.requires.fine
+
+pub gen_unary_op-gen_expr-b2-requires-in-None : goal.gen_unary_op-gen_expr-b2-requires-in-None
+gen_unary_op-gen_expr-b2-requires-in-None t c = (omega (arith, c.decreases, c.requires.fits, (is_node _ _ _ c.args.t.now.within c.node-node.ensures.node).apart, (is_node _ _ _ c.args.t.now.within c.node-node.ensures.node).real, rank_most c.args.discard), record { fits = omega (arith, c.decreases, c.requires.fits, (is_node _ _ _ c.args.t.now.within c.node-node.ensures.node).apart, (is_node _ _ _ c.args.t.now.within c.node-node.ensures.node).real, rank_most c.args.discard); fine = (c.push-b1-in-None.ensures (file_of c.args.t.now) tt).fine; named = ((c.push-b1-in-None.ensures (file_of c.args.t.now) tt).named c.requires.named) })
+
+pub gen_unary_op-action-requires-in-None : goal.gen_unary_op-action-requires-in-None
+gen_unary_op-action-requires-in-None t c = c.gen_expr-b2-in-None.ensures.fine
+
+pub gen_unary_op-shape_of-list-in-None : goal.gen_unary_op-shape_of-list-in-None
+gen_unary_op-shape_of-list-in-None t c = c.action-in-None.auto.list ∙ c.gen_expr-b2-in-None.auto.list ∙ c.push-b1-in-None.auto.list
+
+pub gen_unary_op-shape_of-scratch-in-None : goal.gen_unary_op-shape_of-scratch-in-None
+gen_unary_op-shape_of-scratch-in-None t c = c.gen_expr-b2-in-None.auto.scratch
+
+pub gen_unary_op-returns-in-None : goal.gen_unary_op-returns-in-None
+gen_unary_op-returns-in-None t c = rw (c.in-Sub.is, literal_of (is_node _ _ _ c.args.t.now.within c.node-node.ensures.node), ← literal_is (file_of c.args.t.now) c.node-node.result.root, ← c.literal_of.ensures, c.in-None.is) (minus_arm c.args.t.now.script.layout c.args.t.now.part (c.push-b1-in-None.ensures (file_of c.args.t.now) tt) c.gen_expr-b2-in-None.ensures (c.action-in-None.ensures (file_of c.args.t.now)))
+
+pub goto-gen_expr-b1-requires-in-None : goal.goto-gen_expr-b1-requires-in-None
+goto-gen_expr-b1-requires-in-None t c = (omega (arith, c.decreases, c.requires.fits, (is_node _ _ _ c.args.t.now.within c.node-node.ensures.node).apart, (is_node _ _ _ c.args.t.now.within c.node-node.ensures.node).real), record { fits = omega (arith, c.decreases, c.requires.fits, (is_node _ _ _ c.args.t.now.within c.node-node.ensures.node).apart, (is_node _ _ _ c.args.t.now.within c.node-node.ensures.node).real); fine = c.requires.fine; named = c.requires.named })
+
+pub goto-goto_frame2-requires-in-None : goal.goto-goto_frame2-requires-in-None
+goto-goto_frame2-requires-in-None t c = c.gen_expr-b1-in-None.ensures.fine
+
+pub goto-shape_of-list-in-None : goal.goto-shape_of-list-in-None
+goto-shape_of-list-in-None t c = c.goto_frame2-in-None.auto.list ∙ c.gen_expr-b1-in-None.auto.list
+
+pub goto-shape_of-scratch-in-None : goal.goto-shape_of-scratch-in-None
+goto-shape_of-scratch-in-None t c = c.gen_expr-b1-in-None.auto.scratch
+
+pub goto-returns-in-None : goal.goto-returns-in-None
+goto-returns-in-None t c = rw (literal_of (is_node _ _ _ c.args.t.now.within c.node-node.ensures.node), ← literal_is (file_of c.args.t.now) c.node-node.result.root, ← c.literal_of.ensures, c.in-None.is) (goto_arm c.args.t.now.script.layout c.args.t.now.part c.args.play c.gen_expr-b1-in-None.ensures (c.goto_frame2-in-None.ensures (file_of c.args.t.now)))

@@ -1,13 +1,10 @@
 use Rattle.std.proofs.Common.{refl, ◌∙◌}
 use Rattle.tree.proofs.Nodes.{no_trees, some_trees}
-use Rattle.resolver.proofs.Texts.{params_start, params_few, params_less, params_again, params_done}
+use Rattle.resolver.proofs.Texts.{params_start, params_less, params_again, params_done}
 use Rattle.resolver.proofs.text.params_text.Goals as goal
 
 pub loop-left-init : goal.loop-left-init
 loop-left-init c = (refl, params_start c.args.params.now.within refl)
-
-pub with-t-requires-clause-few : goal.with-t-requires-clause-few
-with-t-requires-clause-few c = params_few c.loop-left.invariant.1
 
 pub loop-left-smaller : goal.loop-left-smaller
 loop-left-smaller c = params_less c.loop-left.invariant.1 (rw c.loop-left.invariant.0 at c.node-node.ensures.node) (some_trees c.loop-left-test.ensures)
@@ -20,5 +17,5 @@ loop-left-preserved c =
           (rw (i.0, c.param_of.ensures) at (c.text.ensures.in_file c.loop-left.left.within.layout)) c.with-t.ensures,
     )
 
-pub returns : goal.returns
-returns c = record { value = params_done c.loop-left.invariant.1 (no_trees c.loop-left-test.ensures); few = params_few c.loop-left.invariant.1 }
+pub returns-clause-value : goal.returns-clause-value
+returns-clause-value c = params_done c.loop-left.invariant.1 (no_trees c.loop-left-test.ensures)

@@ -1,13 +1,10 @@
-use Rattle.std.proofs.Common.{ap, arith}
+use Rattle.std.proofs.Common.{ap}
 use Rattle.script_records.specs.declared.layout.ScriptFile.{ScriptFile}
-use Rattle.resolver.proofs.Texts.{function_kids, function_done, function_fits}
+use Rattle.resolver.proofs.Texts.{function_kids, function_done}
 use Rattle.resolver.proofs.lists.Lists.function_data.Goals as goal
 
 pub invariant_of-kids : goal.invariant_of-kids
 invariant_of-kids c = record { within = function_kids c.args.self.now.ready _ c.requires c.row_at-row.ensures c.saturating_sub-n.ensures }
-
-pub overflow_add-result : goal.overflow_add-result
-overflow_add-result c = omega (arith, function_fits c.text.result.now (omega (arith, c.text.ensures.short, c.args.self.now.short)) c.params_text-params.ensures.few c.with-all.ensures c.function_of-f.result.register_count c.beside_strings.ensures)
 
 pub returns : goal.returns
 returns c =

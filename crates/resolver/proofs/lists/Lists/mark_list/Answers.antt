@@ -1,8 +1,8 @@
-use Rattle.resolver.proofs.Walking.{mark_start, mark_again}
+use Rattle.resolver.proofs.Walking.{standing_at, mark_start, mark_again}
 use Rattle.resolver.proofs.lists.Lists.mark_list.Goals as goal
 
 pub loop-e-init : goal.loop-e-init
-loop-e-init c = rw c.end-e.ensures (mark_start _ _ _ _ c.requires.order c.told-places)
+loop-e-init c = rw c.end-e.ensures (mark_start _ _ _ _ (standing_at c.args.self.now c.requires).order c.told-places)
 
 pub loop-e-preserved : goal.loop-e-preserved
 loop-e-preserved c =

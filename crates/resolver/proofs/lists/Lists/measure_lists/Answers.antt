@@ -7,11 +7,11 @@ loop-j-init c = pass_start _ _ _ _ (omega arith)
 
 pub returns-in_err-body : goal.returns-in_err-body
 returns-in_err-body c =
-    pass_long c.requires (omega (arith, c.args.self.now.counted)) c.loop-j.invariant c.measure_list.ensures.tried c.in_err-body.ensures.ok_part c.in_err-body.ensures.value _ c.from_residual.ensures.1 _ _
+    pass_long c.args.self.now.stands (omega (arith, c.args.self.now.counted)) c.loop-j.invariant c.measure_list.ensures.tried c.in_err-body.ensures.ok_part c.in_err-body.ensures.value _ c.from_residual.ensures.1 _ _
 
 pub loop-j-preserved : goal.loop-j-preserved
 loop-j-preserved c =
-    pass_again c.requires (omega (arith, c.args.self.now.counted)) c.loop-j.invariant c.measure_list.ensures.tried c.in_ok-body.ensures.ok_part
+    pass_again c.args.self.now.stands (omega (arith, c.args.self.now.counted)) c.loop-j.invariant c.measure_list.ensures.tried c.in_ok-body.ensures.ok_part
     (rw (c.measure_list.ensures.same_sizes, c.number_at.ensures, c.args.self.now.counted))
 
 pub returns-then-near : goal.returns-then-near

@@ -10,7 +10,7 @@ with-t-requires-clause-few c = pool_few c.loop-i.invariant c.args.self.now.ready
 
 pub loop-i-preserved : goal.loop-i-preserved
 loop-i-preserved c =
-    pool_again c.loop-i.invariant (rw (c.text.ensures.in_file c.args.self.now.ready.layout) at c.with-t.ensures) c.loop-i-test.true c.args.self.now.long c.requires
+    pool_again c.loop-i.invariant (rw (c.text.ensures.in_file c.args.self.now.ready.layout) at c.with-t.ensures) c.loop-i-test.true c.args.self.now.stands.long c.requires
 
 pub returns : goal.returns
 returns c = pool_done c.loop-i.invariant (omega arith)
