@@ -1,10 +1,9 @@
 -- The ways through the functions of this crate.
 use Prim.Native.Nat.{ℕ, ◌+◌, ◌≤◌}
-use mathlib.Core.Path.{◌≡◌, refl}
+use mathlib.Core.Path.{◌≡◌}
 use mathlib.Core.Bool.{Bool, true, false}
 use mathlib.Core.List.{List, []}
-use mathlib.Core.Option.{none, some}
-use native.Mathlib.Omega.{arith}
+use Rattle.std.specs.Prelude.{None, Some}
 use lib.Dec.{T}
 use lib.ListN.{length}
 use Rattle.pcode.specs.declared.Op.{Op}
@@ -15,24 +14,18 @@ use Rattle.hir.specs.declared.ConstantKind.TheVariants as constant
 use Rattle.special_properties.specs.SpecialProperties.{same_bytes, null, undefined, get_special_property}
 use Rattle.script_records.specs.Layout.{layout_of, string_at}
 use Rattle.script.specs.Resolve.{constant_over}
-use Rattle.lowering.specs.Builder.{◌>>◌, refuse, action, plain_action, push, push_string}
+use Rattle.lowering.specs.Builder.{◌>>◌, action, plain_action, push, push_string}
 use Rattle.lowering.specs.Access.{Access, Variable, Direct, SpecialProperty, for_name, for_identifier, for_constant, store_register}
 use Rattle.list_slice.specs.File.{text_in, names_string}
-use Rattle.codegen_state.specs.declared.CodeBuilder.{CodeBuilder}
+use Rattle.codegen_state.specs.declared.BuilderState.{BuilderState}
 use Rattle.codegen_state.specs.View.{value_in}
-use Rattle.codegen_state.specs.Does.{Fine, Does}
+use Rattle.codegen_state.specs.Does.{Does}
 use Rattle.tree.specs.Within.{constant_named}
-use Rattle.builder.specs.Entries.{refused_with}
-use Rattle.builder.proofs.Leaves.{refuses}
 use Rattle.access.specs.Accesses.{pushed_direct, set_and_push, call_register}
 use Rattle.access.proofs.Chains.{row, leaves}
 use Rattle.access.proofs.Texts.{text_is, no_text_lem}
 
-pub refused_now : (F w : List ℕ) {b r : CodeBuilder} (n : ℕ) → Fine b w → b.refused ≡ 0 → 1 ≤ n → r ≡ refused_with b n → Does F (refuse {A = Unit {0}} n) b w tt r w
-unfolding refuse
-refused_now F w n f h k e = refuses F (refuse {A = Unit {0}} n) tt n f h (λ q. omega arith) refl e
-
-module _ (F : List ℕ) {b r : CodeBuilder} {w w' : List ℕ} where
+module _ (F : List ℕ) {b r : BuilderState} {w w' : List ℕ} where
   pub null_name : (s : ℕ) → same_bytes (text_in F s) null ≡ true → Does F (push Null) b w tt r w' →
       Does F (for_name (same_bytes (text_in F s) null) (same_bytes (text_in F s) undefined) (text_in F s)) b w Direct r w'
   null_name s e d = rw e (leaves (push Null) Direct d)
@@ -45,11 +38,11 @@ module _ (F : List ℕ) {b r : CodeBuilder} {w w' : List ℕ} where
       Does F (for_name (same_bytes (text_in F s) null) (same_bytes (text_in F s) undefined) (text_in F s)) b w Variable r w'
   other_name s e q d = rw (e, q) (leaves (push_string (text_in F s)) Variable d)
 
-  pub property : {b1 : CodeBuilder} {w1 : List ℕ} (s : ℕ) {n : ℕ} → some n ≡ get_special_property (text_in F s) →
+  pub property : {b1 : BuilderState} {w1 : List ℕ} (s : ℕ) {n : ℕ} → Some n ≡ get_special_property (text_in F s) →
       Does F (push_string (text_in F 4294967295)) b w tt b1 w1 → Does F (push (Integer n)) b1 w1 tt r w' → Does F (for_identifier (text_in F s)) b w SpecialProperty r w'
   property s {n} e d k = rw (← e) (leaves (push_string [] >> push (Integer n)) SpecialProperty (row (push_string []) (push (Integer n)) (rw (no_text_lem F) at d) k))
 
-  pub no_property : (s : ℕ) {a : Access} → none ≡ get_special_property (text_in F s) →
+  pub no_property : (s : ℕ) {a : Access} → None ≡ get_special_property (text_in F s) →
       Does F (for_name (same_bytes (text_in F s) null) (same_bytes (text_in F s) undefined) (text_in F s)) b w a r w' → Does F (for_identifier (text_in F s)) b w a r w'
   no_property s e d = rw (← e) d
 
@@ -66,10 +59,10 @@ module _ (F : List ℕ) {b r : CodeBuilder} {w w' : List ℕ} where
   boolean {x = true} e d = rw e d
   boolean {x = false} e d = rw e d
 
-  pub sets : {b1 b2 : CodeBuilder} {w1 w2 : List ℕ} (o : Op) → Does F (store_register 0) b w tt b1 w1 → Does F (action o) b1 w1 tt b2 w2 → Does F (push (Value.Register 0)) b2 w2 tt r w' →
+  pub sets : {b1 b2 : BuilderState} {w1 w2 : List ℕ} (o : Op) → Does F (store_register 0) b w tt b1 w1 → Does F (action o) b1 w1 tt b2 w2 → Does F (push (Value.Register 0)) b2 w2 tt r w' →
       Does F (set_and_push o) b w tt r w'
   sets o d e k = row (store_register 0 >> action o) (push (Value.Register 0)) (row (store_register 0) (action o) d e) k
 
-  pub calls : {b1 b2 : CodeBuilder} {w1 w2 : List ℕ} (o : Op) (n s : ℕ) → Does F (push (Value.Register s)) b w tt b1 w1 → Does F (push Undefined) b1 w1 tt b2 w2 →
+  pub calls : {b1 b2 : BuilderState} {w1 w2 : List ℕ} (o : Op) (n s : ℕ) → Does F (push (Value.Register s)) b w tt b1 w1 → Does F (push Undefined) b1 w1 tt b2 w2 →
       Does F (plain_action (op o) (Delta.down (n + 2))) b2 w2 tt r w' → Does F (call_register o n s) b w tt r w'
   calls o n s d e k = row (push (Value.Register s) >> push Undefined) (plain_action (op o) (Delta.down (n + 2))) (row (push (Value.Register s)) (push Undefined) d e) k

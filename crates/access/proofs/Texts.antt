@@ -1,17 +1,19 @@
 -- The string of a reference, in a file of the allowed size; and a property's number.
-use Prim.Native.Nat.{ℕ, suc, ◌+◌, ◌-◌, ◌≤◌, ◌<◌}
-use mathlib.Core.Path.{◌≡◌, refl, sym}
+use Prim.Native.Nat.{ℕ, ◌-◌, ◌^◌, ◌≤◌, ◌<◌}
+use mathlib.Core.Path.{◌≡◌, refl, ◌∙◌}
 use mathlib.Core.Bool.{Bool, true, false, cond, ◌||◌}
-use mathlib.Core.List.{List, [], ◌∷◌}
-use mathlib.Core.Option.{some, none-ne-some, some-injective}
+use mathlib.Core.List.{List, []}
 use native.Mathlib.Omega.{arith}
 use lib.Dec.{T, eqb, ltb}
+use lib.IntN.{ℤ, pos, negsuc}
 use lib.ListN.{length}
 use borrow.Author.Tests.{eqb-true}
+use mir.Syntax.{w32}
+use mir.Val.{of_z, to_z}
+use Rattle.std.proofs.lemmas.Int.{of_z-to_z}
+use Rattle.decode.specs.Numbers.{unsigned}
 use Rattle.script_records.specs.Layout.{layout_of, start_at, string_at}
 use Rattle.script_records.proofs.LayoutLaws.{end_short}
-use Rattle.special_properties.specs.SpecialProperties.{names, same_spelling, first_from, get_special_property}
-use Rattle.special_properties.proofs.Table.{names_count}
 use Rattle.list_slice.specs.File.{text_in, names_string}
 
 -- the end offset of such an index would lie outside the file
@@ -42,15 +44,10 @@ no_text_named F = go (ltb 4294967295 (layout_of F).strings)
     go true = tt
     go false = tt
 
-first_below : (i : ℕ) (xs : List (List ℕ)) (s : List ℕ) {n : ℕ} → some n ≡ first_from i xs s → n < i + length xs
-unfolding first_from
-first_below i [] s {n} e = absurd (none-ne-some n (sym e))
-first_below i (x ∷ xs) s {n} e = go (same_spelling s x) e (λ q. first_below (suc i) xs s q)
+-- a word read as a signed number, and back
+pub cast_back : (n : ℕ) → n < 2 ^ 32 → unsigned (to_z w32 n) ≡ n
+cast_back n h = back (to_z w32 n) ∙ of_z-to_z w32 n h
   where
-    go : (t : Bool) → some n ≡ cond t (some i) (first_from (suc i) xs s) → (some n ≡ first_from (suc i) xs s → n < suc i + length xs) → n < i + suc (length xs)
-    go true q k = omega (arith, some-injective n i q)
-    go false q k = omega (arith, k q)
-
-pub number_below : (s : List ℕ) {n : ℕ} → some n ≡ get_special_property s → n < 22
-unfolding get_special_property
-number_below s e = omega (arith, first_below 0 names s e, names_count)
+    back : (z : ℤ) → unsigned z ≡ of_z w32 z
+    back (pos k) = refl
+    back (negsuc k) = omega arith

@@ -14,16 +14,10 @@ ghost use Rattle.action_writer.specs.Outcomes.{Leaves, Measured, top_outcome};
 
 use crate::list::write_list;
 use byte_writer::bytes::put_byte;
+use refusal::Refusal;
 use resolver::{count_lists, resolve};
 use script_records::layout::{Layout, layout_of};
 use zeros::clear_bytes;
-
-// How many bytes were written, or the refusal's number.
-#[derive(Clone, Copy)]
-pub enum Written {
-    Bytes(usize),
-    Refused(u32),
-}
 
 fn wide(x: u32) -> usize
     ensures { result ≡ x }
@@ -31,7 +25,7 @@ fn wide(x: u32) -> usize
     x as usize
 }
 
-// The top list's body and End, or refusal 12.
+// The top list's body and End.
 fn write_top(
     file: &[u8],
     l: Layout,
@@ -39,7 +33,7 @@ fn write_top(
     sizes: &[u32; 1024],
     offsets: &[u32; 4096],
     output: &mut [u8],
-) -> Written
+) -> Result<usize, Refusal>
     requires writable { Writable file.now l list.now sizes.now offsets.now }
     requires measured { Measured file.now list.now sizes.now }
     requires output_value { output.old ≡ zeros_of (length output.old) }
@@ -48,14 +42,14 @@ fn write_top(
     let n = count_lists(list);
     let size = wide(sizes[0]);
     if output.len() <= size {
-        return Written::Refused(12);
+        return Err(Refusal::ShortOutput);
     }
     let end = write_list(file, l, list, sizes, offsets, n - 1, output, 0);
     let length = put_byte(output, end, 0);
-    Written::Bytes(length)
+    Ok(length)
 }
 
-// The refusals 9, 10 and 11 in their order, or the bytes.
+// What resolving refuses comes first.
 fn write_resolved(
     file: &[u8],
     l: Layout,
@@ -63,7 +57,7 @@ fn write_resolved(
     sizes: &mut [u32; 1024],
     offsets: &mut [u32; 4096],
     output: &mut [u8],
-) -> Written
+) -> Result<usize, Refusal>
     requires lowered { Lowered file.now list.now }
     requires l_value { l ≡ layout_of file.now }
     requires output_value { output.old ≡ zeros_of (length output.old) }
@@ -71,15 +65,16 @@ fn write_resolved(
     requires offsets_len { length offsets.old ≡ 4096 }
     ensures { Leaves (if_lowered (lists_of limits01 file.now) (length output.old)) (length output.old) result output.new }
 {
-    let answer = resolve(file, l, list, sizes, offsets);
-    let refusal = answer.refusal;
-    if refusal != 0 {
-        return Written::Refused(refusal);
-    }
+    resolve(file, l, list, sizes, offsets)?;
     write_top(file, l, list, sizes, offsets, output)
 }
 
-fn write_with_tables(file: &[u8], l: Layout, list: &[u32], output: &mut [u8]) -> Written
+fn write_with_tables(
+    file: &[u8],
+    l: Layout,
+    list: &[u32],
+    output: &mut [u8],
+) -> Result<usize, Refusal>
     requires lowered { Lowered file.now list.now }
     requires l_value { l ≡ layout_of file.now }
     requires output_value { output.old ≡ zeros_of (length output.old) }
@@ -90,8 +85,8 @@ fn write_with_tables(file: &[u8], l: Layout, list: &[u32], output: &mut [u8]) ->
     write_resolved(file, l, list, &mut sizes, &mut offsets, output)
 }
 
-// The action bytes of the lists that the list slice holds for a script file, then zeros; or the refusal, and zeros.
-pub fn write(file: &[u8], list: &[u32], output: &mut [u8]) -> Written
+// The action bytes of the lists that the list slice holds for a script file, then zeros; after a refusal only zeros. How many bytes were written.
+pub fn write(file: &[u8], list: &[u32], output: &mut [u8]) -> Result<usize, Refusal>
     requires { Lowered file.now list.now }
     ensures { Leaves (if_lowered (lists_of limits01 file.now) (length output.old)) (length output.old) result output.new }
 {

@@ -9,7 +9,7 @@ use Rattle.lowering.specs.Statement.{start}
 use Rattle.list_slice.specs.Entry.{entry, entry_of, piece_of}
 use Rattle.list_slice.specs.Words.{zeros_of, entry_at, run, cut}
 use Rattle.list_slice.specs.Items.{gathered}
-use Rattle.codegen_state.specs.declared.CodeBuilder.{CodeBuilder}
+use Rattle.codegen_state.specs.declared.BuilderState.{BuilderState}
 use Rattle.codegen_state.specs.View.{state, gather}
 use Rattle.codegen_state.specs.Does.{Fine, marked, Written}
 use Rattle.codegen_state.specs.Index.{latest}
@@ -26,7 +26,7 @@ pub zeros_at : (n i : ℕ) → get_or (zeros_of n) i 0 ≡ 0
 unfolding zeros_of
 zeros_at n i = zero_at n i
 
-abbrev pub begun : CodeBuilder
+abbrev pub begun : BuilderState
 begun = record {
   actions = 1;
   size = 0;

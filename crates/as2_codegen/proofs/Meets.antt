@@ -26,7 +26,7 @@ use Rattle.list_slice.proofs.Areas.{zeros_length}
 use Rattle.zeros.proofs.Clearing.{zeros_zeros}
 use Rattle.lowering.proofs.Theorems.{refusal_number}
 use Rattle.definition.specs.Compile.{lists_of, lowered_with, statements_of}
-use Rattle.codegen_state.specs.declared.CodeBuilder.{CodeBuilder}
+use Rattle.codegen_state.specs.declared.BuilderState.{BuilderState}
 use Rattle.codegen_state.specs.View.{state, Waiting, waiting, holds, stopped, held, back, carry, after}
 use Rattle.codegen_state.specs.Does.{Does}
 use Rattle.codegen_state.proofs.Steps.{held_stopped, held_holds}
@@ -38,7 +38,7 @@ use Rattle.as2_codegen.specs.Begin.{Begun, statements_part}
 use Rattle.as2_codegen.specs.Lowering.{Lowers, Generated}
 
 -- case by case: the lists of the state, or the refusal
-module _ (F : List ℕ) (r : CodeBuilder) (w : List ℕ) (x : Waiting) where
+module _ (F : List ℕ) (r : BuilderState) (w : List ℕ) (x : Waiting) where
   lists_at_lem : (b : Bool) → eqb r.refused 0 ≡ b → (y : Result (Unit {0})) → held F tt r w ≡ back x y → r.refused ≡ 0 → finish y ≡ lists (finished (state F r w))
   lists_at_lem c z (ok u s) e h =
       let p : holds tt (state F r w) (waiting r w) ≡ holds u s x = sym (held_holds F tt r w h) ∙ e in
@@ -74,7 +74,7 @@ low n (inr (inr (inr e))) = (omega arith, omega arith)
 
 -- an accepted file, and what generating its statements leaves
 module _ {F : List ℕ} (accepted : check_of F ≡ 0) {p : Part} (is-part : p ≡ statements_part (layout_of F))
-    {b : CodeBuilder} {w : List ℕ} (g : Begun F b w) {r : CodeBuilder} {w' : List ℕ} (d : Does F (gen_statements no_loop (meanings_at F p)) b w tt r w') where
+    {b : BuilderState} {w : List ℕ} (g : Begun F b w) {r : BuilderState} {w' : List ℕ} (d : Does F (gen_statements no_loop (meanings_at F p)) b w tt r w') where
   abbrev generated : Result (Unit {0})
   generated = gen_statements no_loop (meanings_at F (statements_in F)) (start limits01)
 

@@ -6,14 +6,14 @@ use Rattle.script_records.specs.Layout.{layout_of}
 use Rattle.script.specs.Rules.{check_of}
 use Rattle.lowering.specs.Builder.{limits01}
 use Rattle.lowering.specs.Statement.{start}
-use Rattle.codegen_state.specs.declared.CodeBuilder.{CodeBuilder}
+use Rattle.codegen_state.specs.declared.BuilderState.{BuilderState}
 use Rattle.codegen_state.specs.View.{state}
 use Rattle.codegen_state.specs.Does.{Fine, Named}
 use Rattle.tree.specs.declared.Trees.{Trees}
 use Rattle.tree.specs.Handle.{file_of}
 
 -- the definition's first state, with no list waiting
-pub record Begun (F : List ℕ) (b : CodeBuilder) (w : List ℕ) : Type 0 where
+pub record Begun (F : List ℕ) (b : BuilderState) (w : List ℕ) : Type 0 where
   pub fine : Fine b w
   pub named : Named F b w
   pub starts : state F b w ≡ start limits01

@@ -1,31 +1,32 @@
 -- The actions that codes and their first words say, and the stack sizes after them.
-use Prim.Native.Nat.{ℕ, ◌+◌, ◌-◌}
+use Prim.Native.Nat.{ℕ}
 use mathlib.Core.Path.{◌≡◌, refl}
 use mathlib.Core.List.{List}
 use mathlib.Core.Bool.{Bool, true, false, ◌&&◌}
-use native.Mathlib.Omega.{arith}
 use lib.Dec.{T}
+use mir.Val.{bool_byte}
 use Rattle.pcode.specs.declared.Op.{Op}
-use Rattle.pcode.specs.declared.Row.{Row}
-use Rattle.pcode.specs.Pcode as pcode
-use Rattle.pcode.specs.Pcode.{Plain, Branching, Action, moved, row_of}
-use Rattle.pcode.specs.Moves.{Moves}
+use Rattle.pcode.specs.Pcode.{Plain, Branching, Action, row_of}
 use Rattle.list_slice.specs.Entry.{Piece, bit, branch_code}
 use Rattle.list_slice.specs.File.{names_string, text_in}
 use Rattle.codegen_state.specs.Does.{Says}
+
+pub bit_byte : (x : Bool) → bool_byte x ≡ bit x
+bit_byte true = refl
+bit_byte false = refl
 
 module _ (F : List ℕ) where
   pub op_says : (o : Op) {c : ℕ} → c ≡ (row_of o).code → Says F c 0 (Action.plain (Plain.op o))
   op_says o e = rw e (record { piece = Piece.op o; entry_is = refl; adds = λ is. refl; is_good = tt })
 
-  pub store_says : (r : ℕ) → Says F 0x87 r (Action.plain (Plain.StoreRegister r))
-  store_says r = record { piece = Piece.StoreRegister r; entry_is = refl; adds = λ is. refl; is_good = tt }
+  pub store_says : (r : ℕ) {x : ℕ} → x ≡ r → Says F 0x87 x (Action.plain (Plain.StoreRegister r))
+  store_says r e = rw e (record { piece = Piece.StoreRegister r; entry_is = refl; adds = λ is. refl; is_good = tt })
 
   pub frame_says : (n : ℕ) → Says F 0x81 n (Action.plain (Plain.GotoFrame n))
   frame_says n = record { piece = Piece.GotoFrame n; entry_is = refl; adds = λ is. refl; is_good = tt }
 
-  pub frame2_says : (play : Bool) {x : ℕ} → x ≡ bit play → Says F 0x9F x (Action.plain (Plain.GotoFrame2 play))
-  frame2_says play e = rw e (record { piece = Piece.GotoFrame2 play; entry_is = refl; adds = λ is. refl; is_good = tt })
+  pub frame2_says : (play : Bool) {x : ℕ} → x ≡ bool_byte play → Says F 0x9F x (Action.plain (Plain.GotoFrame2 play))
+  frame2_says play e = rw (e, bit_byte play) (record { piece = Piece.GotoFrame2 play; entry_is = refl; adds = λ is. refl; is_good = tt })
 
   pub and_true : (t : Bool) → T t → T (t && true)
   and_true true h = tt
@@ -36,11 +37,3 @@ module _ (F : List ℕ) where
 
   pub branch_says : (k : Branching) (l : ℕ) → Says F (branch_code k) l (Action.branch k l)
   branch_says k l = record { piece = Piece.branch k l; entry_is = refl; adds = λ is. refl; is_good = tt }
-
--- the size after an action of the table
-
-pub size_up : {r : Row} {s : pcode.Row} (z : ℕ) {low : ℕ} → Moves r s → low ≡ z - r.down → r.up ≡ true → low + 1 ≡ moved s.delta z
-size_up z m e u = rw (m.size z, u, e)
-
-pub size_level : {r : Row} {s : pcode.Row} (z : ℕ) {low : ℕ} → Moves r s → low ≡ z - r.down → r.up ≡ false → low ≡ moved s.delta z
-size_level z m e u = rw (m.size z, u, e) (omega arith)

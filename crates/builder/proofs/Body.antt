@@ -2,24 +2,25 @@
 use Prim.Native.Nat.{ℕ, zero, suc, ◌+◌, ◌-◌, ◌≤◌, ◌<◌}
 use mathlib.Core.Path.{◌≡◌, refl, sym, ap, ◌∙◌}
 use mathlib.Core.List.{List, ◌∷◌}
-use mathlib.Core.Bool.{Bool, true, false, cond}
+use mathlib.Core.Bool.{Bool, true, false}
 use native.Mathlib.Omega.{arith}
-use lib.Dec.{eqb}
 use lib.ListN.{length, get_or, take, drop}
-use borrow.Author.Tests.{eqb-true, eqb-false}
+use Rattle.std.specs.Prelude.{Option, Some, None, is_some, IsNone}
 use Rattle.pcode.specs.Pcode.{Header}
 use Rattle.lowering.specs.Builder.{State, Result, ok, refused, Step, close, define_function, in_new_list}
 use Rattle.list_slice.specs.Entry.{Entry, entry}
 use Rattle.list_slice.specs.Words.{entry_at, run}
 use Rattle.list_slice.specs.Items.{gathered}
 use Rattle.list_slice.proofs.Laid.{run_length}
-use Rattle.codegen_state.specs.declared.CodeBuilder.{CodeBuilder}
-use Rattle.codegen_state.specs.View.{gather, state, Waiting, waiting, Held, holds, stopped, held, back, carry, after, shut}
+use Rattle.codegen_state.specs.declared.Stop.{Stop}
+use Rattle.codegen_state.specs.declared.BuilderState.{BuilderState}
+use Rattle.codegen_state.specs.Stop.{refusal_of}
+use Rattle.codegen_state.specs.View.{gather, state, Waiting, waiting, Held, holds, stopped, unless, held, back, carry, after, shut}
 use Rattle.codegen_state.specs.Does.{Begins, Fine, Named, Does, Ready, Ends}
 use Rattle.codegen_state.proofs.Steps.{held_stopped, held_holds}
 use Rattle.builder.specs.Entries.{begun}
 
-pub begun_fine : (b : CodeBuilder) (w : List ℕ) → Fine b w → Fine (begun b) w
+pub begun_fine : (b : BuilderState) (w : List ℕ) → Fine b w → Fine (begun b) w
 begun_fine b w f = record {
   long = f.long;
   low = f.low;
@@ -47,7 +48,7 @@ begun_fine b w f = record {
   first = λ h. absurd (omega arith);
 }
 
-pub begun_named : (F : List ℕ) (b : CodeBuilder) (w : List ℕ) → Named F b w → Named F (begun b) w
+pub begun_named : (F : List ℕ) (b : BuilderState) (w : List ℕ) → Named F b w → Named F (begun b) w
 begun_named F b w n = record { finished = n.finished; unfinished = n.unfinished; strings = n.strings; indexed = n.indexed }
 
 pub take_run : (w : List ℕ) (i n k : ℕ) → k ≤ n → take k (run w i n) ≡ run w i k
@@ -80,9 +81,9 @@ abbrev Waits : Held (Unit {0}) → Waiting → Type 0
 Waits (holds a s r) x = r ≡ x
 Waits (stopped n) x = Unit
 
-waits_cond : (c : Bool) (s : State) (r : Waiting) (n : ℕ) → Waits (cond c (holds (tt {0}) s r) (stopped n)) r
-waits_cond true s r n = refl
-waits_cond false s r n = tt
+waits_unless : (o : Option Stop) (s : State) (r : Waiting) → Waits (unless o (holds (tt {0}) s r)) r
+waits_unless None s r = refl
+waits_unless (Some x) s r = tt
 
 waits_back : (r : Waiting) (x : Result (Unit {0})) → Waits (back r x) r
 waits_back r (ok a s) = refl
@@ -93,45 +94,43 @@ unfolding after carry
 waits_after (holds a s r) x m h = rw (← h) (waits_back r (m s))
 waits_after (stopped n) x m h = tt
 
-waits_held : (F : List ℕ) (b : CodeBuilder) (w : List ℕ) → Waits (held F (tt {0}) b w) (waiting b w)
+waits_held : (F : List ℕ) (b : BuilderState) (w : List ℕ) → Waits (held F (tt {0}) b w) (waiting b w)
 unfolding held
-waits_held F b w = waits_cond (eqb b.refused 0) (state F b w) (waiting b w) b.refused
+waits_held F b w = waits_unless b.refused (state F b w) (waiting b w)
 
 -- the same lists wait after a step as before, where it was not refused
-pub same_waiting : (F : List ℕ) (m : Step) (b r : CodeBuilder) (w w' : List ℕ) → Does F m b w tt r w' → r.refused ≡ 0 → waiting r w' ≡ waiting b w
+pub same_waiting : (F : List ℕ) (m : Step) (b r : BuilderState) (w w' : List ℕ) → Does F m b w tt r w' → IsNone r.refused → waiting r w' ≡ waiting b w
 same_waiting F m b r w w' d h =
     let p : Waits (held F (tt {0}) r w') (waiting b w) = rw d.same (waits_after (held F (tt {0}) b w) (waiting b w) m (waits_held F b w)) in
     rw (held_holds F (tt {0}) r w' h) at p
 
-same_lengths : (F : List ℕ) (m : Step) (b r : CodeBuilder) (w w' : List ℕ) → Does F m b w tt r w' → r.refused ≡ 0 → 4096 - r.base ≡ 4096 - b.base
+same_lengths : (F : List ℕ) (m : Step) (b r : BuilderState) (w w' : List ℕ) → Does F m b w tt r w' → IsNone r.refused → 4096 - r.base ≡ 4096 - b.base
 same_lengths F m b r w w' d h =
     sym (run_length w' r.base (4096 - r.base)) ∙ ap (λ (x : Waiting). length x.entries) (same_waiting F m b r w w' d h) ∙ run_length w b.base (4096 - b.base)
 
 -- and where none waited before, none does after
-pub top_base : (F : List ℕ) (m : Step) (b r : CodeBuilder) (w w' : List ℕ) → b.base ≡ 4096 → Does F m b w tt r w' → r.refused ≡ 0 → r.base ≡ 4096
+pub top_base : (F : List ℕ) (m : Step) (b r : BuilderState) (w w' : List ℕ) → b.base ≡ 4096 → Does F m b w tt r w' → IsNone r.refused → r.base ≡ 4096
 top_base F m b r w w' e d h =
     let l : 4096 - r.base ≡ 4096 - b.base = same_lengths F m b r w w' d h in
     omega (arith, d.fine.cap)
 
-held_zero : (F : List ℕ) (b : CodeBuilder) (w : List ℕ) (a : Unit {0}) (s : State) (x : Waiting) → held F (tt {0}) b w ≡ holds a s x → b.refused ≡ 0
-held_zero F b w a s x e = zero_at (eqb b.refused 0) refl
-  where
-    zero_at : (c : Bool) → eqb b.refused 0 ≡ c → b.refused ≡ 0
-    zero_at true z = eqb-true b.refused 0 z
-    zero_at false z =
-        let y : stopped b.refused ≡ holds a s x = sym (held_stopped F (tt {0}) b w (eqb-false b.refused 0 z)) ∙ e in
-        let o : ◌≡◌ {A = ℕ} 0 1 = cc in
-        absurd (omega arith)
+unless_none : (o : Option Stop) (s t : State) (x y : Waiting) (a : Unit {0}) → unless o (holds (tt {0}) s x) ≡ holds a t y → IsNone o
+unless_none None s t x y a e = refl
+unless_none (Some z) s t x y a e = let o : ◌≡◌ {A = ℕ} 0 1 = cc in absurd (omega arith)
 
-module _ (F : List ℕ) (m : Step) (b : CodeBuilder) (w : List ℕ) (f : Fine b w) {b2 : CodeBuilder} {w2 : List ℕ} (d : Does F m (begun b) w tt b2 w2) where
-  same_base : b2.refused ≡ 0 → (b2.base ≡ b.top) × (b2.sizes ≡ b.sizes + b.size)
+held_none : (F : List ℕ) (b : BuilderState) (w : List ℕ) (a : Unit {0}) (s : State) (x : Waiting) → held F (tt {0}) b w ≡ holds a s x → IsNone b.refused
+unfolding held
+held_none F b w a s x e = unless_none b.refused (state F b w) s (waiting b w) x a e
+
+module _ (F : List ℕ) (m : Step) (b : BuilderState) (w : List ℕ) (f : Fine b w) {b2 : BuilderState} {w2 : List ℕ} (d : Does F m (begun b) w tt b2 w2) where
+  same_base : IsNone b2.refused → (b2.base ≡ b.top) × (b2.sizes ≡ b.sizes + b.size)
   same_base h =
       let e = same_waiting F m (begun b) b2 w w2 d h in
       let l : 4096 - b2.base ≡ 4096 - b.top = same_lengths F m (begun b) b2 w w2 d h in
       (omega (arith, d.fine.cap, f.bottom), ap (λ (x : Waiting). x.sizes) e)
 
   -- the list before begins where it began
-  begins : b2.refused ≡ 0 → b2.base < b.base → Begins w2 b.base
+  begins : IsNone b2.refused → b2.base < b.base → Begins w2 b.base
   begins h k =
       let p = same_base h in
       let e : run w2 b.top (4096 - b.top) ≡ run w b.top (4096 - b.top) = rw p.0 at (ap (λ (x : Waiting). x.entries) (same_waiting F m (begun b) b2 w w2 d h)) in
@@ -163,13 +162,13 @@ module _ (F : List ℕ) (m : Step) (b : CodeBuilder) (w : List ℕ) (f : Fine b 
     unfolding shut state
     shut_back k (refused n s) v q = refl
     shut_back k (ok a s) v q =
-        let z : b2.refused ≡ 0 = held_zero F b2 w2 a s (waiting (begun b) w) v in
+        let z : IsNone b2.refused = held_none F b2 w2 a s (waiting (begun b) w) v in
         let p = same_base z in
         let i : k ≡ b.base - b.top = omega (arith, p.0) in
         let j : b.sizes + b.size - b.size ≡ b.sizes = omega arith in
         rw (i, before_take, before_drop, j)
 
-    body_held : b.refused ≡ 0 → held F (tt {0}) b2 w2 ≡ back (waiting (begun b) w) (m (state F (begun b) w))
+    body_held : IsNone b.refused → held F (tt {0}) b2 w2 ≡ back (waiting (begun b) w) (m (state F (begun b) w))
     unfolding after carry
     body_held n = d.same ∙ rw (held_holds F (tt {0}) (begun b) w n)
 
@@ -182,13 +181,11 @@ module _ (F : List ℕ) (m : Step) (b : CodeBuilder) (w : List ℕ) (f : Fine b 
     unfolding after carry define_function
     shut_holds k q v = shut_back k (m (state F (begun b) w)) v q ∙ rw begun_state
 
-    pub function_done : {r : CodeBuilder} {w' : List ℕ} → Ends F h b2 w2 b.base b.size r w' → Does F (define_function h m) b w tt r w'
-    function_done {r} {w'} e = record { same = same_as (eqb b.refused 0) refl; fine = e.fine; named = λ n. e.named (d.named (begun_named F b w n)) }
+    pub function_done : {r : BuilderState} {w' : List ℕ} → Ends F h b2 w2 b.base b.size r w' → Does F (define_function h m) b w tt r w'
+    function_done {r} {w'} e = record { same = same_as (is_some b.refused) refl; fine = e.fine; named = λ n. e.named (d.named (begun_named F b w n)) }
       where
-        same_as : (c : Bool) → eqb b.refused 0 ≡ c → held F (tt {0}) r w' ≡ after (held F (tt {0}) b w) (define_function h m)
-        same_as false z =
-            let n = eqb-false b.refused 0 z in
-            rw (e.same, d.same, held_stopped F (tt {0}) b w n, held_stopped F (tt {0}) (begun b) w n) (shut_stopped (b.base - b2.base) b.size b.refused)
-        same_as true z =
-            let n = eqb-true b.refused 0 z in
+        same_as : (c : Bool) → is_some b.refused ≡ c → held F (tt {0}) r w' ≡ after (held F (tt {0}) b w) (define_function h m)
+        same_as true n =
+            rw (e.same, d.same, held_stopped F (tt {0}) b w n, held_stopped F (tt {0}) (begun b) w n) (shut_stopped (b.base - b2.base) b.size (refusal_of b.refused))
+        same_as false n =
             rw (e.same, body_held n, held_holds F (tt {0}) b w n) (shut_holds (b.base - b2.base) refl (body_held n))

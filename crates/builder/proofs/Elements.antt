@@ -7,18 +7,19 @@ use native.Mathlib.Omega.{arith}
 use lib.Dec.{leb}
 use lib.ListN.{length, replicate, length-append, length-replicate, replicate-append-replicate}
 use borrow.Author.Tests.{lt-ltb, le-ltb, leb-true, leb-false}
+use Rattle.std.specs.Prelude.{IsNone}
 use Rattle.hir.specs.Tree.{Forest, more}
 use Rattle.lowering.specs.Builder.{State, Result, ok, refused, bind, ◌>>=◌, pure, create_label}
 use Rattle.lowering.specs.Builder as builder
 use Rattle.lowering.specs.Meaning.{Meaning, Element, case, default, statement, element}
 use Rattle.lowering.specs.Statement.{SwitchElement, with_label, with_labels}
-use Rattle.codegen_state.specs.declared.CodeBuilder.{CodeBuilder}
+use Rattle.codegen_state.specs.declared.Stop.TheVariants.{TooMany}
+use Rattle.codegen_state.specs.declared.BuilderState.{BuilderState}
 use Rattle.codegen_state.specs.View.{state, carry, after}
 use Rattle.codegen_state.specs.Does.{Fine, Does}
 use Rattle.codegen_state.proofs.Steps.{held_holds}
-use Rattle.builder.specs.Entries.{refused_with}
 use Rattle.builder.specs.Labels.{one_label, labels_of_forest, with_number, elements_from}
-use Rattle.builder.proofs.Leaves.{changed, changed_named, refuses_in}
+use Rattle.builder.proofs.Leaves.{changed, changed_named, refused_with, refuses_in}
 use Rattle.builder.proofs.Marks.{length_labels, labelled_fine, labelled_state}
 
 -- n labels more
@@ -84,23 +85,23 @@ elements_full (more ms m kids) s k h = more_full ms m kids s h (leb (length s.la
 
 -- the ways of create_labels
 
-module _ (F : List ℕ) {b : CodeBuilder} {w : List ℕ} (ms : Forest Meaning) {n : ℕ} (f : Fine b w) (h : b.refused ≡ 0) (e : labels_of_forest ms ≡ n) where
-  pub labels_full : {r : CodeBuilder} → 1024 < b.labels + n → r ≡ refused_with b 8 → Does F (with_labels ms) b w (elements_from b.labels ms) r w
+module _ (F : List ℕ) {b : BuilderState} {w : List ℕ} (ms : Forest Meaning) {n : ℕ} (f : Fine b w) (h : IsNone b.refused) (e : labels_of_forest ms ≡ n) where
+  pub labels_full : 1024 < b.labels + n → Does F (with_labels ms) b w (elements_from b.labels ms) (refused_with b TooMany) w
   unfolding state
-  labels_full k q =
+  labels_full k =
       let full = elements_full ms (state F b w) (rw (length_labels f) f.labels) (rw (length_labels f, e) k) in
-      refuses_in F (with_labels ms) (elements_from b.labels ms) 8 f h (λ z. omega arith) full.1 q
+      refuses_in F (with_labels ms) (elements_from b.labels ms) TooMany f h full.1
 
   labels_step : b.labels + n ≤ 1024 → with_labels ms (state F b w) ≡ ok (elements_from b.labels ms) (state F (changed b b.refused (b.labels + n) b.size) w)
   unfolding state
   labels_step k =
       elements_fit ms (state F b w) (rw (length_labels f, e) k)
-      ∙ rw (length_labels f, e, labelled_state F n f k)
+      ∙ rw (length_labels f, e, labelled_state n f k F)
 
   pub labels_done : b.labels + n ≤ 1024 → Does F (with_labels ms) b w (elements_from b.labels ms) (changed b b.refused (b.labels + n) b.size) w
   unfolding after carry
   labels_done k = record {
     same = rw (held_holds F (elements_from b.labels ms) (changed b b.refused (b.labels + n) b.size) w h, held_holds F (tt {0}) b w h, labels_step k);
-    fine = labelled_fine F n f k;
+    fine = labelled_fine n f k;
     named = changed_named b.refused (b.labels + n) b.size;
   }

@@ -8,6 +8,7 @@ use native.Mathlib.Omega.{arith}
 use lib.Dec.{T, eqb, ltb}
 use lib.ListN.{length, get_or, drop, length-take, length-drop, length-map}
 use borrow.Author.Tests.{lt-ltb, le-ltb, eqb-true, eqb-false, ltb-true, ltb-false}
+use Rattle.std.specs.Prelude.{IsSome, IsNone}
 use Rattle.pcode.specs.Pcode.{Header, Action, Item, moved}
 use Rattle.lowering.specs.Builder.{State, refuse, define_delta, defined}
 use Rattle.list_slice.specs.Entry.{Entry, entry, entry_of, piece_of}
@@ -17,14 +18,15 @@ use Rattle.list_slice.specs.File.{header_in, names_function}
 use Rattle.list_slice.proofs.Pieces.{piece_back}
 use Rattle.list_slice.proofs.Laid.{Rising}
 use Rattle.list_slice.proofs.Read.{map_append}
-use Rattle.codegen_state.specs.declared.CodeBuilder.{CodeBuilder}
+use Rattle.codegen_state.specs.declared.Stop.TheVariants.{TooMany}
+use Rattle.codegen_state.specs.declared.BuilderState.{BuilderState}
 use Rattle.codegen_state.specs.View.{gather, labels_of, ends_of, pool_of, open_of, state, waiting, Held, holds, shut, good}
-use Rattle.codegen_state.specs.Does.{Begins, Fine, Named, Ends}
+use Rattle.codegen_state.specs.Does.{Begins, Fine, Named, Ready, Ends}
 use Rattle.codegen_state.proofs.Steps.{held_stopped, held_holds}
 use Rattle.codegen_state.proofs.Index.{indexed_same}
-use Rattle.builder.specs.Entries.{refused_with}
+use Rattle.builder.specs.Entries.{ended, Closed}
 use Rattle.builder.specs.Move.{Moved}
-use Rattle.builder.proofs.Leaves.{refuses, room_action, run_same, cut_same, gather_more}
+use Rattle.builder.proofs.Leaves.{refused_with, refuses, room_action, run_same, cut_same, gather_more}
 use Rattle.builder.proofs.Body.{take_run, drop_run}
 use Rattle.builder.proofs.Move.{with_end, end_long, end_entry, end_own, end_word, end_is, same_part, side_word, part_more}
 
@@ -68,24 +70,7 @@ unfolding run
 run_snoc w i zero = let e : i + 0 ≡ i = omega arith in rw e
 run_snoc w i (suc n) = let e : i + suc n ≡ suc i + n = omega arith in rw e (ap (λ (es : List Entry). entry_at w i ∷ es) (run_snoc w (suc i) n))
 
-abbrev pub ended : CodeBuilder → (base size up low : ℕ) → CodeBuilder
-ended b base size up low = record {
-  refused = b.refused;
-  actions = b.actions + 1;
-  values = b.values;
-  labels = b.labels;
-  marks = b.marks;
-  constants = b.constants;
-  total = b.total;
-  lists = b.lists + 1;
-  size = size + up;
-  sizes = b.sizes - size;
-  low = low;
-  top = b.base - 1;
-  base = base;
-}
-
-module _ (w0 : List ℕ) (b : CodeBuilder) (w : List ℕ) (low base size number up : ℕ) (f : Fine b w0) (a : b.actions < 1024) (i : Moved w0 b.low b.top low b.base w)
+module _ (w0 : List ℕ) (b : BuilderState) (w : List ℕ) (low base size number up : ℕ) (f : Fine b w0) (a : b.actions < 1024) (i : Moved w0 b.low b.top low b.base w)
     (over : b.base ≤ base) (cap : base ≤ 4096) (less : size ≤ b.sizes) (under : b.base < 4096) (starts : b.base < base → Begins w0 base) (one : up ≤ 1) where
   abbrev ended_words : List ℕ
   ended_words = with_end w b.lists low (b.base - 1) 256 (b.lists + 1) number
@@ -196,7 +181,7 @@ module _ (w0 : List ℕ) (b : CodeBuilder) (w : List ℕ) (low base size number 
       let n : 4096 - b.base - (base - b.base) ≡ 4096 - base = omega arith in
       rw (drop_run w0 b.base (4096 - b.base) (base - b.base) (omega arith), e, n, run_same w0 ended_words base (4096 - base) (λ j p q. ended_above j (omega arith) (omega arith)))
 
-  ended_fine : Fine (ended b base size up low) ended_words
+  pub ended_fine : Fine (ended b base size up low) ended_words
   ended_fine = record {
     long = rw ended_long f.long;
     low = omega (arith, i.step, room);
@@ -271,24 +256,30 @@ module _ (w0 : List ℕ) (b : CodeBuilder) (w : List ℕ) (low base size number 
         own : T (good F (piece_of (entry 256 (b.lists + 1) number)))
         own = rw (piece_back (piece.function (b.lists + 1) number)) (and_true (names_function F number) known)
 
-    pub ended_done : b.refused ≡ 0 → Ends F (header_in F number) b w0 base size (ended b base size up low) ended_words
+    pub ended_done : IsNone b.refused → Ends F (header_in F number) b w0 base size (ended b base size up low) ended_words
     ended_done h = record {
       same = rw (held_holds F (tt {0}) (ended b base size up low) ended_words h, held_holds F (tt {0}) b w0 h, ended_state, ended_behind) ended_step;
       fine = ended_fine;
       named = ended_named;
     }
 
-pub end_stays : (F : List ℕ) (h : Header) (b : CodeBuilder) (w : List ℕ) (base size : ℕ) → (b.refused ≡ 0 → ⊥) → Fine b w → Ends F h b w base size b w
+pub end_stays : (F : List ℕ) (h : Header) (b : BuilderState) (w : List ℕ) (base size : ℕ) → IsSome b.refused → Fine b w → Ends F h b w base size b w
 unfolding shut
 end_stays F h b w base size n f = record { same = rw (held_stopped F (tt {0}) b w n); fine = f; named = λ x. x }
 
-pub end_full : (F : List ℕ) (h : Header) (b r : CodeBuilder) (w : List ℕ) (base size : ℕ) → b.refused ≡ 0 → 1024 ≤ b.actions → Fine b w → r ≡ refused_with b 8 →
-    Ends F h b w base size r w
+pub end_full : (F : List ℕ) (h : Header) (b : BuilderState) (w : List ℕ) (base size : ℕ) → IsNone b.refused → 1024 ≤ b.actions → Fine b w → Ends F h b w base size (refused_with b TooMany) w
 unfolding shut state refuse
-end_full F h b r w base size n k f e =
-    let d = refuses F (refuse 8) (tt {0}) {b = b} {r = r} 8 {w = w} f n (λ e. omega arith) refl e in
+end_full F h b w base size n k f =
+    let d = refuses F (refuse 8) (tt {0}) {b = b} TooMany {w = w} f n refl in
     record {
-      same = rw (e, held_stopped F (tt {0}) (refused_with b 8) w (λ e. omega arith), held_holds F (tt {0}) b w n, le-ltb _ _ k);
+      same = rw (held_stopped F (tt {0}) (refused_with b TooMany) w refl, held_holds F (tt {0}) b w n, le-ltb _ _ k);
       fine = d.fine;
       named = d.named;
     }
+
+module _ {b r : BuilderState} {w w' : List ℕ} {base size number up : ℕ} (f : Fine b w) (n : IsNone b.refused) (a : b.actions < 1024) (y : Ready b w base size) (one : up ≤ 1) (c : Closed b w base size number up r w') where
+  pub closed_fine : Fine r w'
+  closed_fine = let z = y n in rw (c.new, c.words) (ended_fine w b c.moved c.low base size number up f a c.moves z.0 z.1 z.2 z.3 z.4 one)
+
+  pub closed_ends : (F : List ℕ) → T (names_function F number) → moved (define_delta (header_in F number)) size ≡ size + up → Ends F (header_in F number) b w base size r w'
+  closed_ends F h e = let z = y n in rw (c.new, c.words) (ended_done w b c.moved c.low base size number up f a c.moves z.0 z.1 z.2 z.3 z.4 one F h e n)

@@ -26,7 +26,7 @@ use Rattle.list_slice.proofs.Labels.{label_word_at}
 use Rattle.list_slice.proofs.Read.{map_append}
 use Rattle.list_slice.proofs.Determined.{counts_append}
 use Rattle.list_slice.proofs.Finish.{Filled, filled_holds}
-use Rattle.codegen_state.specs.declared.CodeBuilder.{CodeBuilder}
+use Rattle.codegen_state.specs.declared.BuilderState.{BuilderState}
 use Rattle.codegen_state.specs.View.{gather, ends_of, pool_of, open_of, state, good}
 use Rattle.codegen_state.specs.Does.{Written, Fine, Named}
 use Rattle.builder.specs.Entries.{put3}
@@ -80,7 +80,7 @@ last_filled [] ys h = h
 last_filled (x ∷ []) ys h = h
 last_filled (x ∷ z ∷ xs) ys h = last_filled (z ∷ xs) ys h
 
-module _ (w0 : List ℕ) (b : CodeBuilder) (f : Fine b w0) (bottom : b.base ≡ 4096) {low : ℕ} {w1 : List ℕ} (m : Moved w0 b.low b.top low 4096 w1) where
+module _ (w0 : List ℕ) (b : BuilderState) (f : Fine b w0) (bottom : b.base ≡ 4096) {low : ℕ} {w1 : List ℕ} (m : Moved w0 b.low b.top low 4096 w1) where
   low_is : low ≡ b.low + (4096 - b.top)
   low_is = omega (arith, m.step, f.bottom)
 
@@ -299,7 +299,7 @@ first_action : (a c : Plain) (is : List Item) (ls : List (List Item)) (l : ℕ) 
 unfolding label_word
 first_action a c is ls l = refl
 
-module _ (w0 : List ℕ) (b : CodeBuilder) (f : Fine b w0) (bottom : b.base ≡ 4096) {low : ℕ} {w1 : List ℕ} (m : Moved w0 b.low b.top low 4096 w1)
+module _ (w0 : List ℕ) (b : BuilderState) (f : Fine b w0) (bottom : b.base ≡ 4096) {low : ℕ} {w1 : List ℕ} (m : Moved w0 b.low b.top low 4096 w1)
     {w2 : List ℕ} (c : Cleared (set w1 (13312 + b.lists) low) w2) where
   pool_moved : entry_at w1 (low - 1) ≡ entry 0x88 0 0
   pool_moved =

@@ -21,47 +21,14 @@ use Rattle.list_slice.proofs.Laid.{Rising}
 use Rattle.list_slice.proofs.Read.{map_append}
 use Rattle.codegen_state.specs.View.{gather}
 use Rattle.builder.specs.Places.{Cleared, placed, placed_at, actions_added, either, Located, list_at, lists_at, Standing, Finished}
+use Rattle.builder.proofs.Filled.{Filled}
 use Rattle.builder.proofs.Leaves.{run_same, rising_le, gather_more}
 use Rattle.builder.proofs.Move.{part_more}
 use Rattle.builder.proofs.Ended.{rising_snoc, cut_snoc, run_cons}
 use Rattle.builder.proofs.FinishItems.{either_zero, either_more, place_else, place, own_word, step_place, step_before, step_count}
 
--- label words set to 0
-
-pub record ClearInv (w0 w : List ℕ) (i : ℕ) : Type 0 where
-  pub long : length w ≡ length w0
-  pub before : (j : ℕ) → j < 12288 → get_or w j 0 ≡ get_or w0 j 0
-  pub zeros : (j : ℕ) → 12288 ≤ j → j < i → get_or w j 0 ≡ 0
-  pub behind : (j : ℕ) → i ≤ j → get_or w j 0 ≡ get_or w0 j 0
-  pub from : 12288 ≤ i
-  pub to : i ≤ 13312
-
-pub clear_holds : (w : List ℕ) → ClearInv w w 12288
-clear_holds w = record {
-  long = refl;
-  before = λ j h. refl;
-  zeros = λ j h k. absurd (omega arith);
-  behind = λ j h. refl;
-  from = omega arith;
-  to = omega arith;
-}
-
-pub clear_again : {w0 w : List ℕ} {i : ℕ} → 13312 ≤ length w0 → ClearInv w0 w i → i ≢ 13312 → ClearInv w0 (set w i 0) (i + 1)
-clear_again {w0} {w} {i} l v n = record {
-  long = rw length-set v.long;
-  before = λ j h. rw (get_or-set_other w i j 0 0 (λ e. omega (arith, v.from))) (v.before j h);
-  zeros = λ j h k. at j h k (eqb j i) refl;
-  behind = λ j h. rw (get_or-set_other w i j 0 0 (λ e. omega arith)) (v.behind j (omega arith));
-  from = omega (arith, v.from);
-  to = omega (arith, v.to);
-}
-  where
-    at : (j : ℕ) → 12288 ≤ j → j < i + 1 → (c : Bool) → eqb j i ≡ c → get_or (set w i 0) j 0 ≡ 0
-    at j h k true z = rw (eqb-true j i z) (get_or-set_same w i 0 0 (omega (arith, v.long, v.to)))
-    at j h k false z = let o = eqb-false j i z in rw (get_or-set_other w i j 0 0 o) (v.zeros j h (omega arith))
-
-pub clear_done : {w0 w : List ℕ} {i : ℕ} → ClearInv w0 w i → i ≡ 13312 → Cleared w0 w
-clear_done v e = record { long = v.long; before = v.before; zeros = λ l h. v.zeros (12288 + l) (omega arith) (omega arith); behind = λ j h. v.behind j (omega arith) }
+pub cleared : {w w' : List ℕ} → Filled w 12288 13312 w' → Cleared w w'
+cleared f = record { long = f.long; before = f.below; zeros = λ l h. f.zeros (12288 + l) (omega arith) (omega arith); behind = f.behind }
 
 -- one label word
 
@@ -177,7 +144,7 @@ places_holds {w} {from} {end} h =
       located = λ F. rw e (record { long = refl; before = λ j k. refl; places = λ l k. sym (either_zero (get_or w (12288 + l) 0)); behind = λ j k. refl });
     }
 
-module _ {w0 : List ℕ} {from end : ℕ} (s : Standing w0 from end) {w : List ℕ} {i position before : ℕ} (v : PlacesInv w0 from end w i position before) (more : i ≢ from) where
+module _ {w0 : List ℕ} {from end : ℕ} (s : Standing w0 from end) {w : List ℕ} {i position before : ℕ} (v : PlacesInv w0 from end w i position before) (more : from < i) where
   this : entry_at w (i - 1) ≡ entry_at w0 (i - 1)
   this = same_entries w0 w (v.located []).before (i - 1) (omega (arith, v.to, v.down, s.cap))
 
@@ -230,6 +197,9 @@ module _ {w0 : List ℕ} {from end : ℕ} (s : Standing w0 from end) {w : List �
         located = λ F. rw e (located_more F);
       }
 
+pub places_done : {w0 w : List ℕ} {from end i position before : ℕ} → PlacesInv w0 from end w i position before → i ≤ from → (F : List ℕ) → Located w0 (list_at F w0 from end ∷ []) w
+places_done {from = from} {i = i} v h F = let e : i ≡ from = omega (arith, v.down) in rw e at (v.located F)
+
 -- lists one after the other
 
 words_append : (xs ys : List (List Item)) (l : ℕ) → label_word (xs ++ ys) l ≡ either (label_word xs l) (label_word ys l)
@@ -268,7 +238,7 @@ functions_holds {w} {n} s = record {
   located = λ F. record { long = refl; before = λ j k. refl; places = λ l k. sym (either_zero (get_or w (12288 + l) 0)); behind = λ j k. refl };
 }
 
-module _ {w0 : List ℕ} {n : ℕ} {w : List ℕ} {i from : ℕ} (v : FunctionsInv w0 n w i from) (more : i ≢ n) where
+module _ {w0 : List ℕ} {n : ℕ} {w : List ℕ} {i from : ℕ} (v : FunctionsInv w0 n w i from) (more : i < n) where
   abbrev end : ℕ
   end = get_or w (13312 + i) 0
 
@@ -323,3 +293,6 @@ module _ {w0 : List ℕ} {n : ℕ} {w : List ℕ} {i from : ℕ} (v : FunctionsI
     rest = rest_rising.1;
     located = λ F. rw (lists_more F) (located_append (v.located F) (d F));
   }
+
+pub functions_done : {w0 w : List ℕ} {n i from : ℕ} → FunctionsInv w0 n w i from → n ≤ i → (F : List ℕ) → Located w0 (lists_at F w0 n) w
+functions_done {n = n} {i = i} v h F = let e : i ≡ n = omega (arith, v.to) in rw e at (v.located F)

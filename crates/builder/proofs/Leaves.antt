@@ -8,6 +8,7 @@ use native.Mathlib.Omega.{arith}
 use lib.Dec.{T, leb, eqb}
 use lib.ListN.{length, get_or, take, drop, length-take}
 use borrow.Author.Tests.{lt-ltb, le-ltb, eqb-true, eqb-false, leb-true, leb-false}
+use Rattle.std.specs.Prelude.{Option, Some, IsNone}
 use Rattle.pcode.specs.Pcode.{Value, Branching, Action, Item, Delta, moved}
 use Rattle.lowering.specs.Builder.{State, M, refused, with_items, with_labels, action_with_stack_delta}
 use Rattle.list_slice.specs.Entry.{Piece, Entry, entry, entry_of, piece_of}
@@ -16,18 +17,22 @@ use Rattle.list_slice.specs.Items.{added, gathered}
 use Rattle.list_slice.specs.File.{in_file}
 use Rattle.list_slice.proofs.Pieces.{piece_back}
 use Rattle.list_slice.proofs.Laid.{Rising}
-use Rattle.codegen_state.specs.declared.CodeBuilder.{CodeBuilder}
+use Rattle.codegen_state.specs.declared.Stop.{Stop}
+use Rattle.codegen_state.specs.declared.Stop.TheVariants.{TooMany}
+use Rattle.codegen_state.specs.declared.BuilderState.{BuilderState}
+use Rattle.codegen_state.specs.Stop.{number_of}
 use Rattle.codegen_state.specs.View.{gather, labels_of, ends_of, pool_of, open_of, state, waiting, holds, held, carry, after, good}
 use Rattle.codegen_state.specs.Does.{marked, Written, Begins, Fine, Named, Does, Says}
 use Rattle.codegen_state.proofs.Steps.{held_stopped, held_holds}
 use Rattle.codegen_state.proofs.Index.{indexed_same}
-use Rattle.builder.specs.Entries.{put3, refused_with, grown, Grown}
+use Rattle.builder.specs.Entries.{put3, grown, Grown}
+use Rattle.builder.specs.Runs.{Emits}
 use Rattle.builder.proofs.Codes.{op_code, value_to}
 use Rattle.builder.proofs.Words.{length_put, entry_same, entry_other, getD_put, side_put}
 
 -- a refusal, labels more, or a smaller stack size
 
-abbrev pub changed : CodeBuilder → (number labels size : ℕ) → CodeBuilder
+abbrev pub changed : BuilderState → Option Stop → (labels size : ℕ) → BuilderState
 changed b n l z = record {
   refused = n;
   actions = b.actions;
@@ -44,7 +49,7 @@ changed b n l z = record {
   base = b.base;
 }
 
-pub changed_fine : {b : CodeBuilder} {w : List ℕ} (n l z : ℕ) → Fine b w → b.labels ≤ l → l ≤ 1024 → z ≤ b.size → b.marks ≡ marked (take l (drop 12288 w)) → Fine (changed b n l z) w
+pub changed_fine : {b : BuilderState} {w : List ℕ} (n : Option Stop) (l z : ℕ) → Fine b w → b.labels ≤ l → l ≤ 1024 → z ≤ b.size → b.marks ≡ marked (take l (drop 12288 w)) → Fine (changed b n l z) w
 changed_fine n l z f least most small ms = record {
   long = f.long;
   low = f.low;
@@ -72,22 +77,30 @@ changed_fine n l z f least most small ms = record {
   no_string_lem = f.no_string_lem;
 }
 
-pub changed_named : {F : List ℕ} {b : CodeBuilder} {w : List ℕ} (n l z : ℕ) → Named F b w → Named F (changed b n l z) w
+pub changed_named : {F : List ℕ} {b : BuilderState} {w : List ℕ} (n : Option Stop) (l z : ℕ) → Named F b w → Named F (changed b n l z) w
 changed_named n l z x = record { finished = x.finished; unfinished = x.unfinished; strings = x.strings; indexed = x.indexed }
 
-pub refuses_in : {A : Type 0} (F : List ℕ) (m : M A) (a : A) {b r : CodeBuilder} (n : ℕ) {w : List ℕ} {s : State} → Fine b w → b.refused ≡ 0 → (n ≡ 0 → ⊥) → m (state F b w) ≡ refused n s →
-    r ≡ refused_with b n → Does F m b w a r w
+-- a refusal
+
+abbrev pub refused_with : BuilderState → Stop → BuilderState
+refused_with b x = changed b (Some x) b.labels b.size
+
+pub refused_fine : {b : BuilderState} {w : List ℕ} (x : Stop) → Fine b w → Fine (refused_with b x) w
+refused_fine {b} x f = changed_fine (Some x) b.labels b.size f (omega arith) f.labels (omega arith) f.marks
+
+pub refuses_in : {A : Type 0} (F : List ℕ) (m : M A) (a : A) {b : BuilderState} (x : Stop) {w : List ℕ} {s : State} → Fine b w → IsNone b.refused → m (state F b w) ≡ refused (number_of x) s →
+    Does F m b w a (refused_with b x) w
 unfolding after carry
-refuses_in F m a {b} n {w} f h k e q = rw q (record {
-  same = rw (held_holds F (tt {0}) b w h, e, held_stopped F a (refused_with b n) w k);
-  fine = changed_fine n b.labels b.size f (omega arith) f.labels (omega arith) f.marks;
-  named = changed_named n b.labels b.size;
-})
+refuses_in F m a {b} x {w} f h e = record {
+  same = rw (held_holds F (tt {0}) b w h, e, held_stopped F a (refused_with b x) w refl);
+  fine = refused_fine x f;
+  named = changed_named (Some x) b.labels b.size;
+}
 
 -- a step that is refused in the state before it
-pub refuses : {A : Type 0} (F : List ℕ) (m : M A) (a : A) {b r : CodeBuilder} (n : ℕ) {w : List ℕ} → Fine b w → b.refused ≡ 0 → (n ≡ 0 → ⊥) → m (state F b w) ≡ refused n (state F b w) →
-    r ≡ refused_with b n → Does F m b w a r w
-refuses F m a n f h k e q = refuses_in F m a n f h k e q
+pub refuses : {A : Type 0} (F : List ℕ) (m : M A) (a : A) {b : BuilderState} (x : Stop) {w : List ℕ} → Fine b w → IsNone b.refused → m (state F b w) ≡ refused (number_of x) (state F b w) →
+    Does F m b w a (refused_with b x) w
+refuses F m a x f h e = refuses_in F m a x f h e
 
 -- the room
 
@@ -97,13 +110,13 @@ marked_le [] = omega arith
 marked_le (zero ∷ xs) = omega (arith, marked_le xs)
 marked_le (suc n ∷ xs) = omega (arith, marked_le xs)
 
-pub marks_le : {b : CodeBuilder} {w : List ℕ} → Fine b w → b.marks ≤ b.labels
+pub marks_le : {b : BuilderState} {w : List ℕ} → Fine b w → b.marks ≤ b.labels
 marks_le {b} {w} f = omega (arith, f.marks, marked_le (labels_of b w), length-take b.labels (drop 12288 w))
 
-pub room_action : {b : CodeBuilder} {w : List ℕ} → Fine b w → b.actions < 1024 → b.low < b.top
+pub room_action : {b : BuilderState} {w : List ℕ} → Fine b w → b.actions < 1024 → b.low < b.top
 room_action f h = omega (arith, marks_le f, f.used, f.values, f.labels)
 
-pub room_value : {b : CodeBuilder} {w : List ℕ} → Fine b w → b.values < 2048 → b.low < b.top
+pub room_value : {b : BuilderState} {w : List ℕ} → Fine b w → b.values < 2048 → b.low < b.top
 room_value f h = omega (arith, marks_le f, f.used, f.actions, f.labels)
 
 -- entries that are the same in other words
@@ -129,7 +142,7 @@ unfolding gather gathered
 gather_more F e es = refl
 
 -- the words have one entry more, at the top, and these label words
-pub record Wrote (b : CodeBuilder) (w : List ℕ) (e : Entry) (labels : List ℕ) (w' : List ℕ) : Type 0 where
+pub record Wrote (b : BuilderState) (w : List ℕ) (e : Entry) (labels : List ℕ) (w' : List ℕ) : Type 0 where
   pub long : length w' ≡ length w
   pub here : entry_at w' (b.top - 1) ≡ e
   pub there : (i : ℕ) → i ≢ b.top - 1 → i < 4096 → entry_at w' i ≡ entry_at w i
@@ -139,11 +152,11 @@ pub record Wrote (b : CodeBuilder) (w : List ℕ) (e : Entry) (labels : List ℕ
   pub behind : (j : ℕ) → 12288 + b.labels ≤ j → get_or w' j 0 ≡ get_or w j 0
 
 -- a later value joins the list's last entry, which is a value
-abbrev pub Joins : CodeBuilder → List ℕ → (code : ℕ) → Type 0
+abbrev pub Joins : BuilderState → List ℕ → (code : ℕ) → Type 0
 Joins b w code = 0x120 ≤ code → (b.top < b.base) × (0x110 ≤ (entry_at w b.top).code)
 
-module _ (F : List ℕ) {b : CodeBuilder} {w w' labels : List ℕ} (p : Piece) (f : Fine b w) (room : b.low < b.top) (wr : Wrote b w (entry_of p) labels w') (n v m z : ℕ) where
-  abbrev b' : CodeBuilder
+module _ (F : List ℕ) {b : BuilderState} {w w' labels : List ℕ} (p : Piece) (f : Fine b w) (room : b.low < b.top) (wr : Wrote b w (entry_of p) labels w') (n v m z : ℕ) where
+  abbrev b' : BuilderState
   b' = grown b n v m z
 
   open_more : open_of b' w' ≡ entry_of p ∷ open_of b w
@@ -169,7 +182,7 @@ module _ (F : List ℕ) {b : CodeBuilder} {w w' labels : List ℕ} (p : Piece) (
         cut_same w w' 0 (ends_of b w) b.low f.ends (λ j x y. wr.there j (λ q. omega arith) (omega (arith, f.bottom))),
       )
 
-  pub grown_held : b.refused ≡ 0 → held F (tt {0}) b' w' ≡ holds tt (with_items (added (in_file F []) p (gather F (open_of b w))) z n v (with_labels labels (state F b w))) (waiting b w)
+  pub grown_held : IsNone b.refused → held F (tt {0}) b' w' ≡ holds tt (with_items (added (in_file F []) p (gather F (open_of b w))) z n v (with_labels labels (state F b w))) (waiting b w)
   grown_held h = rw (held_holds F (tt {0}) b' w' h, grown_state, waiting_same)
 
   -- an entry of the list is the new one or one that was there
@@ -242,7 +255,7 @@ module _ (F : List ℕ) {b : CodeBuilder} {w w' labels : List ℕ} (p : Piece) (
   }
 
 -- an entry written, and no other word
-wrote : {b : CodeBuilder} {w : List ℕ} (c x y : ℕ) → Fine b w → b.low < b.top → Wrote b w (entry c x y) (labels_of b w) (put3 w (b.top - 1) c x y)
+wrote : {b : BuilderState} {w : List ℕ} (c x y : ℕ) → Fine b w → b.low < b.top → Wrote b w (entry c x y) (labels_of b w) (put3 w (b.top - 1) c x y)
 wrote {b} {w} c x y f room =
     let low : b.top - 1 < 4095 = omega (arith, f.bottom) in
     record {
@@ -256,7 +269,7 @@ wrote {b} {w} c x y f room =
     }
 
 -- the entry of a piece
-pub wrote_piece : {b : CodeBuilder} {w : List ℕ} (p : Piece) {c x y : ℕ} → entry_of p ≡ entry c x y → Fine b w → b.low < b.top → Wrote b w (entry_of p) (labels_of b w) (put3 w (b.top - 1) c x y)
+pub wrote_piece : {b : BuilderState} {w : List ℕ} (p : Piece) {c x y : ℕ} → entry_of p ≡ entry c x y → Fine b w → b.low < b.top → Wrote b w (entry_of p) (labels_of b w) (put3 w (b.top - 1) c x y)
 wrote_piece p {c} {x} {y} e f room = rw e (wrote c x y f room)
 
 -- actions
@@ -282,21 +295,29 @@ no_later F (Piece.branch Branching.If l) a h = omega arith
 no_later F (Piece.function n r) a h = omega arith
 no_later F (Piece.mark l) a h = omega arith
 
-pub emit_full : (F : List ℕ) (a : Action) (d : Delta) {b r : CodeBuilder} {w : List ℕ} → Fine b w → b.refused ≡ 0 → 1024 ≤ b.actions → r ≡ refused_with b 8 →
-    Does F (action_with_stack_delta a d) b w tt r w
-unfolding action_with_stack_delta state
-emit_full F a d {b} f h k e = refuses F (action_with_stack_delta a d) tt 8 f h (λ q. omega arith) (simp (le-ltb b.actions 1024 k)) e
+pub emits : {F : List ℕ} {c x : ℕ} {a : Action} → Says F c x a → Emits c x
+emits {F} {a = a} s = record { piece = s.piece; entry_is = s.entry_is; low = omega (arith, ap (λ (e : Entry). e.code) s.entry_is, no_later F s.piece a s.adds) }
 
-pub emit_done : (F : List ℕ) (a : Action) (d : Delta) {b r : CodeBuilder} {w w' : List ℕ} {c x z : ℕ} → Fine b w → z ≤ b.size + 1 → b.refused ≡ 0 → b.actions < 1024 →
-    Grown b w c x 0 1 0 0 z r w' → Says F c x a → z ≡ moved d b.size → Does F (action_with_stack_delta a d) b w tt r w'
-unfolding action_with_stack_delta state after carry
-emit_done F a d {b} {r} {w} {w'} {c} {x} {z} f small h k g s e =
-    let p = s.piece in
-    let room = room_action f k in
-    let wr = wrote_piece p s.entry_is f room in
-    rw (g.new, g.words) (record {
-      same = rw (grown_held F p f room wr 1 0 0 z h, held_holds F (tt {0}) b w h, lt-ltb b.actions 1024 k, s.adds (gather F (open_of b w)), e);
-      fine = grown_fine F p f room wr 1 0 0 z (omega arith) (omega arith) (omega (arith, f.values)) (omega (arith, f.marks)) (omega (arith, f.size))
-          (λ q. absurd (omega (arith, no_later F p a s.adds)));
-      named = grown_named F p f room wr 1 0 0 z s.is_good;
-    })
+pub emit_full : (F : List ℕ) (a : Action) (d : Delta) {b : BuilderState} {w : List ℕ} → Fine b w → IsNone b.refused → 1024 ≤ b.actions → Does F (action_with_stack_delta a d) b w tt (refused_with b TooMany) w
+unfolding action_with_stack_delta state
+emit_full F a d {b} f h k = refuses F (action_with_stack_delta a d) tt TooMany f h (simp (le-ltb b.actions 1024 k))
+
+module _ {b r : BuilderState} {w w' : List ℕ} {c x z : ℕ} (f : Fine b w) (small : z ≤ b.size + 1) (k : b.actions < 1024) (g : Grown b w c x 0 1 0 0 z r w') where
+  pub emit_fine : Emits c x → Fine r w'
+  emit_fine e =
+      let room = room_action f k in
+      rw (g.new, g.words)
+      (grown_fine [] e.piece f room (wrote_piece e.piece e.entry_is f room) 1 0 0 z (omega arith) (omega arith) (omega (arith, f.values)) (omega (arith, f.marks)) (omega (arith, f.size))
+      (λ q. absurd (omega (arith, e.low, ap (λ (e : Entry). e.code) e.entry_is))))
+
+  pub emit_done : (F : List ℕ) (a : Action) (d : Delta) → IsNone b.refused → Says F c x a → z ≡ moved d b.size → Does F (action_with_stack_delta a d) b w tt r w'
+  unfolding action_with_stack_delta state after carry
+  emit_done F a d h s e =
+      let p = s.piece in
+      let room = room_action f k in
+      let wr = wrote_piece p s.entry_is f room in
+      rw (g.new, g.words) (record {
+        same = rw (grown_held F p f room wr 1 0 0 z h, held_holds F (tt {0}) b w h, lt-ltb b.actions 1024 k, s.adds (gather F (open_of b w)), e);
+        fine = rw (g.new, g.words) at (emit_fine (emits s));
+        named = grown_named F p f room wr 1 0 0 z s.is_good;
+      })

@@ -1,13 +1,14 @@
 pub mod Words
+pub mod Runs
 pub mod Codes
 pub mod Leaves
 pub mod Actions
-pub mod Numbers
 pub mod Pushes
 pub mod Marks
 pub mod Pops
 pub mod Elements
 pub mod Body
+pub mod Filled
 pub mod Move
 pub mod Ended
 pub mod FinishItems

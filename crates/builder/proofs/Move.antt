@@ -1,86 +1,89 @@
 -- The move of a list to the finished ones.
-use Prim.Native.Nat.{ℕ, ◌+◌, ◌-◌, ◌*◌, ◌≤◌, ◌<◌, min}
+use Prim.Native.Nat.{ℕ, ◌+◌, ◌-◌, ◌*◌, ◌≤◌, ◌<◌, min, max}
 use mathlib.Core.Path.{◌≡◌, refl, ap, sym, ◌∙◌}
 use mathlib.Core.Logic.{◌≢◌}
 use mathlib.Core.List.{List, [], ◌∷◌, ◌++◌}
 use mathlib.Core.Bool.{Bool, true, false}
 use native.Mathlib.Omega.{arith}
 use native.Mathlib.Numerals.{add-one}
-use lib.Dec.{eqb}
-use lib.ListN.{length, get_or, set, take, drop, length-set, length-take, length-drop}
+use lib.Dec.{ltb}
+use lib.ListN.{length, get_or, set, take, drop, replicate, length-set, length-take, length-drop}
 use lib.Seq.{get_or-set_same, get_or-set_other, get_or-take, get_or-drop, take-suc, ext_get_or}
-use borrow.Author.Tests.{eqb-true, eqb-false}
+use borrow.Author.Tests.{ltb-true, ltb-false}
+use borrow.Rule.Slice.PartMut.{put_mid}
+use Rattle.std.specs.List.{CopiedTo, SameBelow, SameFrom}
 use Rattle.list_slice.specs.Entry.{entry}
 use Rattle.list_slice.specs.Words.{entry_at}
 use Rattle.builder.specs.Entries.{put3}
 use Rattle.builder.specs.Move.{Movable, Moved}
-use Rattle.builder.proofs.Words.{entry_same, entry_other, entry_side, getD_put, side_put, length_put}
+use Rattle.builder.proofs.Filled.{Filled, fills}
+use Rattle.builder.proofs.Words.{entry_same, entry_other, entry_side, getD_put, length_put}
 
-entry_is : (w : List ℕ) (i : ℕ) → entry (get_or w (i * 3) 0) (get_or w (i * 3 + 1) 0) (get_or w (i * 3 + 2) 0) ≡ entry_at w i
+same_three : (w w' : List ℕ) (i i' : ℕ) → get_or w' (i * 3) 0 ≡ get_or w (i' * 3) 0 → get_or w' (i * 3 + 1) 0 ≡ get_or w (i' * 3 + 1) 0 → get_or w' (i * 3 + 2) 0 ≡ get_or w (i' * 3 + 2) 0 →
+    entry_at w' i ≡ entry_at w i'
 unfolding entry_at
-entry_is w i = refl
+same_three w w' i i' p q r = rw (p, q, r)
 
-gap_put : (w : List ℕ) (low top c x y j : ℕ) (b : Bool) → eqb j top ≡ b → top * 3 + 2 < length w → low < j → (j < top → entry_at w j ≡ entry 0 0 0) → j ≤ top →
-    entry_at (put3 (put3 w top 0 0 0) low c x y) j ≡ entry 0 0 0
-gap_put w low top c x y j true e l o g h =
-    let q : j ≡ top = eqb-true j top e in
-    rw (entry_other (put3 w top 0 0 0) low c x y j (λ e. omega arith), q, entry_same w top 0 0 0 l)
-gap_put w low top c x y j false e l o g h =
-    let q = eqb-false j top e in
-    rw (entry_other (put3 w top 0 0 0) low c x y j (λ e. omega arith), entry_other w top 0 0 0 j q) (g (omega arith))
+no_entry : (w : List ℕ) (i : ℕ) → get_or w (i * 3) 0 ≡ 0 → get_or w (i * 3 + 1) 0 ≡ 0 → get_or w (i * 3 + 2) 0 ≡ 0 → entry_at w i ≡ entry 0 0 0
+unfolding entry_at
+no_entry w i p q r = rw (p, q, r)
 
-pub move_holds : {w : List ℕ} {to from end : ℕ} → Movable w to from end → Moved w to from to from w
-move_holds m = record {
-  moved = λ k h. absurd (omega arith);
-  above = λ j h. refl;
-  below = λ j h. refl;
-  side = refl;
-  gap = m.gap;
-  step = omega arith;
-  started = omega arith;
-  long = refl;
-}
+module _ (w w1 ys : List ℕ) (to from end left : ℕ) (m : Movable w to from end) (l : left ≡ max (to + (end - from)) from) (len : length w1 ≡ length w)
+    (c : CopiedTo w w1 (from * 3) (to * 3) (end * 3 - from * 3) × SameBelow w w1 (to * 3) × SameFrom w w1 (to * 3 + (end * 3 - from * 3)))
+    (e : ys ≡ replicate (length (take (end * 3 - left * 3) (drop (left * 3) w1))) 0) where
+  abbrev low : ℕ
+  low = to + (end - from)
 
-module _ {w0 : List ℕ} {to from end : ℕ} (m : Movable w0 to from end) {w : List ℕ} {low top : ℕ} (i : Moved w0 to from low top w) (t : top < end) where
-  abbrev next : List ℕ
-  next = put3 (put3 w top 0 0 0) low (get_or w (top * 3) 0) (get_or w (top * 3 + 1) 0) (get_or w (top * 3 + 2) 0)
+  abbrev w' : List ℕ
+  w' = put_mid (left * 3) (end * 3 - left * 3) w1 ys
 
-  moved_on : (k : ℕ) (b : Bool) → eqb (to + k) low ≡ b → to + k < low + 1 → entry_at next (to + k) ≡ entry_at w0 (from + k)
-  moved_on k true z h =
-      let q : to + k ≡ low = eqb-true (to + k) low z in
-      let p : from + k ≡ top = omega (arith, i.step) in
-      rw (q, p, entry_same (put3 w top 0 0 0) low (get_or w (top * 3) 0) (get_or w (top * 3 + 1) 0) (get_or w (top * 3 + 2) 0) (rw length_put (omega (arith, i.long, m.long, m.cap, i.step, m.down))), entry_is w top)
-      (i.above top (omega arith))
-  moved_on k false z h =
-      let q = eqb-false (to + k) low z in
-      rw (
-        entry_other (put3 w top 0 0 0) low (get_or w (top * 3) 0) (get_or w (top * 3 + 1) 0) (get_or w (top * 3 + 2) 0) (to + k) q,
-        entry_other w top 0 0 0 (to + k) (λ e. omega (arith, i.step, m.down)),
-      ) (i.moved k (omega arith))
+  filled : Filled w1 (left * 3) (end * 3) w'
+  filled = let n : left * 3 + (end * 3 - left * 3) ≡ end * 3 = omega (arith, m.down, m.whole, l) in rw n at (fills w1 (left * 3) (end * 3 - left * 3) (omega (arith, m.long, m.cap, m.down, m.whole, l, len)) e)
 
-  gap_on : (j : ℕ) → low + 1 ≤ j → j < top + 1 → entry_at next j ≡ entry 0 0 0
-  gap_on j p q =
-      gap_put w low top (get_or w (top * 3) 0) (get_or w (top * 3 + 1) 0) (get_or w (top * 3 + 2) 0) j (eqb j top) refl (omega (arith, i.long, m.long, m.cap)) (omega arith)
-      (λ z. i.gap j (omega arith) z) (omega arith)
+  copied : (j : ℕ) → to * 3 ≤ j → j < low * 3 → get_or w' j 0 ≡ get_or w (from * 3 + (j - to * 3)) 0
+  copied j p q = filled.below j (omega (arith, l)) ∙ c.0 j 0 p (omega (arith, m.whole))
 
-  pub move_again : {w1 : List ℕ} → w1 ≡ next → Moved w0 to from (low + 1) (top + 1) w1
-  move_again e =
-      let v = put3 w top 0 0 0 in
-      let c = get_or w (top * 3) 0 in
-      let x = get_or w (top * 3 + 1) 0 in
-      let y = get_or w (top * 3 + 2) 0 in
-      let o : low ≤ top = omega (arith, i.step, m.down) in
-      let s : to ≤ low = omega (arith, i.step, i.started) in
-      rw e (record {
-        moved = λ k h. moved_on k (eqb (to + k) low) refl h;
-        above = λ j q. rw (entry_other v low c x y j (λ e. omega arith), entry_other w top 0 0 0 j (λ e. omega arith)) (i.above j (omega arith));
-        below = λ j q. rw (entry_other v low c x y j (λ e. omega arith), entry_other w top 0 0 0 j (λ e. omega (arith, i.started, m.down))) (i.below j q);
-        side = rw (side_put v low c x y 12288 (omega (arith, m.cap)), side_put w top 0 0 0 12288 (omega (arith, m.cap))) i.side;
-        gap = gap_on;
-        step = omega (arith, i.step);
-        started = omega (arith, i.started);
-        long = rw (length_put, length_put) i.long;
-      })
+  moved : (k : ℕ) → to + k < low → entry_at w' (to + k) ≡ entry_at w (from + k)
+  moved k h =
+      let p : from * 3 + ((to + k) * 3 - to * 3) ≡ (from + k) * 3 = omega arith in
+      let q : from * 3 + ((to + k) * 3 + 1 - to * 3) ≡ (from + k) * 3 + 1 = omega arith in
+      let r : from * 3 + ((to + k) * 3 + 2 - to * 3) ≡ (from + k) * 3 + 2 = omega arith in
+      same_three w w' (to + k) (from + k)
+      (rw p at (copied ((to + k) * 3) (omega arith) (omega arith)))
+      (rw q at (copied ((to + k) * 3 + 1) (omega arith) (omega arith)))
+      (rw r at (copied ((to + k) * 3 + 2) (omega arith) (omega arith)))
+
+  above : (j : ℕ) → end * 3 ≤ j → get_or w' j 0 ≡ get_or w j 0
+  above j h = filled.behind j h ∙ c.2 j 0 (omega (arith, m.down, m.whole))
+
+  below : (j : ℕ) → j < to * 3 → get_or w' j 0 ≡ get_or w j 0
+  below j h = filled.below j (omega (arith, l)) ∙ c.1 j 0 h
+
+  -- what lies between is as it was, or was filled
+  between : (j : ℕ) → low * 3 ≤ j → j < left * 3 → get_or w' j 0 ≡ get_or w j 0
+  between j p q = filled.below j q ∙ c.2 j 0 (omega (arith, m.whole))
+
+  gap : (i : ℕ) → (t : Bool) → ltb i left ≡ t → low ≤ i → i < end → entry_at w' i ≡ entry 0 0 0
+  gap i true z p q =
+      let h = ltb-true i left z in
+      same_three w w' i i (between (i * 3) (omega arith) (omega arith)) (between (i * 3 + 1) (omega arith) (omega arith)) (between (i * 3 + 2) (omega arith) (omega arith))
+      ∙ m.gap i (omega arith) (omega (arith, l))
+  gap i false z p q =
+      let h = ltb-false i left z in
+      no_entry w' i (filled.zeros (i * 3) (omega arith) (omega arith)) (filled.zeros (i * 3 + 1) (omega arith) (omega arith)) (filled.zeros (i * 3 + 2) (omega arith) (omega arith))
+
+  pub move_done : Moved w to from low end w'
+  move_done = record {
+    moved = moved;
+    above = λ i h. same_three w w' i i (above (i * 3) (omega arith)) (above (i * 3 + 1) (omega arith)) (above (i * 3 + 2) (omega arith));
+    below = λ i h. same_three w w' i i (below (i * 3) (omega arith)) (below (i * 3 + 1) (omega arith)) (below (i * 3 + 2) (omega arith));
+    side = ext_get_or 0 (drop 12288 w') (drop 12288 w) (simp length-drop (rw (filled.long, len)))
+        (λ j h. rw (get_or-drop 12288 w' j 0, get_or-drop 12288 w j 0) (above (12288 + j) (omega (arith, m.cap))));
+    gap = λ i p q. gap i (ltb i left) refl p q;
+    step = omega (arith, m.whole);
+    started = m.whole;
+    long = filled.long ∙ len;
+  }
 
 -- the list's end is written, and an entry
 

@@ -1,13 +1,13 @@
 -- An entry written changes that entry alone.
-use Prim.Native.Nat.{ℕ, zero, suc, ◌+◌, ◌*◌, ◌≤◌, ◌<◌}
-use mathlib.Core.Path.{◌≡◌, refl}
+use Prim.Native.Nat.{ℕ, ◌+◌, ◌*◌, ◌<◌}
+use mathlib.Core.Path.{◌≡◌}
 use mathlib.Core.Logic.{◌≢◌}
 use mathlib.Core.List.{List}
 use native.Mathlib.Omega.{arith}
 use lib.ListN.{get_or, set, length, drop, length-set}
 use lib.Seq.{get_or-set_same, get_or-set_other, drop-set-lt}
 use Rattle.list_slice.specs.Entry.{entry}
-use Rattle.list_slice.specs.Words.{entry_at, run}
+use Rattle.list_slice.specs.Words.{entry_at}
 use Rattle.builder.specs.Entries.{put3}
 
 pub length_put : (w : List ℕ) (i c a b : ℕ) → length (put3 w i c a b) ≡ length w
@@ -40,17 +40,6 @@ entry_other w i c a b j h =
       getD_put w i c a b (j * 3 + 2) (λ e. h (omega arith)) (λ e. h (omega arith)) (λ e. h (omega arith)),
     )
 
--- an entry that is written below or above a run leaves it
-pub run_above : (w : List ℕ) (i c a b j n : ℕ) → i < j → run (put3 w i c a b) j n ≡ run w j n
-unfolding run
-run_above w i c a b j zero h = refl
-run_above w i c a b j (suc n) h = rw (entry_other w i c a b j (λ e. omega arith), run_above w i c a b (suc j) n (omega arith))
-
-pub run_below : (w : List ℕ) (i c a b j n : ℕ) → j + n ≤ i → run (put3 w i c a b) j n ≡ run w j n
-unfolding run
-run_below w i c a b j zero h = refl
-run_below w i c a b j (suc n) h = rw (entry_other w i c a b j (λ e. omega arith), run_below w i c a b (suc j) n (omega arith))
-
 pub side_put : (w : List ℕ) (i c a b k : ℕ) → i * 3 + 2 < k → drop k (put3 w i c a b) ≡ drop k w
 unfolding put3
 side_put w i c a b k h =
@@ -62,8 +51,3 @@ pub entry_side : (w : List ℕ) (j v i : ℕ) → i * 3 + 2 < j → entry_at (se
 unfolding entry_at
 entry_side w j v i h =
     rw (get_or-set_other w j (i * 3) v 0 (λ e. omega arith), get_or-set_other w j (i * 3 + 1) v 0 (λ e. omega arith), get_or-set_other w j (i * 3 + 2) v 0 (λ e. omega arith))
-
-pub run_side : (w : List ℕ) (j v i n : ℕ) → (i + n) * 3 ≤ j → run (set w j v) i n ≡ run w i n
-unfolding run
-run_side w j v i zero h = refl
-run_side w j v i (suc n) h = rw (entry_side w j v i (omega arith), run_side w j v (suc i) n (omega arith))

@@ -1,3 +1,4 @@
+pub mod Runs
 pub mod Entries
 pub mod Values
 pub mod Labels

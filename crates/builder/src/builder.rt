@@ -1,274 +1,209 @@
 // Actions, pushes, marks and the tracked stack size (`builder.rs`).
-ghost use Rattle.std.specs.Prelude.{◌≡◌, List, Bool, ℕ, ◌+◌, ◌-◌, ◌*◌, ◌<◌, ◌≤◌, T, length};
-ghost use Rattle.pcode.specs.Pcode.{Action, Delta, moved, Branching, op, StoreRegister, GotoFrame, GotoFrame2, GotoLabel};
-ghost use Rattle.lowering.specs.Builder.{action_with_stack_delta, plain_action, assume_stack_delta, mark_or, mark_label, mark_default, ends_in_push, truncate_stack};
-ghost use Rattle.lowering.specs.Builder as steps;
-ghost use Rattle.lowering.specs.Access as access;
-ghost use Rattle.lowering.specs.Statement as statement;
-ghost use Rattle.list_slice.specs.File.{names_string, text_in};
-ghost use Rattle.codegen_state.specs.View.{gather, open_of, value_in, named};
-ghost use Rattle.codegen_state.specs.Does.{Fine, Does, Says};
-ghost use Rattle.decode.specs.Numbers.{unsigned};
-ghost use Rattle.list_slice.specs.Entry as entry;
-ghost use Rattle.builder.specs.Values.{IsValue};
+ghost use Rattle.codegen_state.specs.Does.{Fine, Fine-prop};
 
-use crate::entries::{grow, refuse};
-use codegen_state::CodeBuilder;
-use pcode::{Label, Op, PushValue, Row, row_of};
+use crate::entries::{grow, grow_marked, value_words};
+use codegen_state::{BuilderState, LABELS, LATER_VALUE, MAX_ACTIONS, MAX_VALUES, PUSH, Stop};
+use pcode::{Label, Op, PushValue, row_of};
 
-// An action of a code and its first word, after which the stack has this size.
-fn emit(list: &mut [u32], b: CodeBuilder, code: u32, first: u32, size: u32) -> CodeBuilder
-    requires fine { Fine b list.old }
-    requires size_bound { size ≤ b.size + 1 }
-    ensures { (F : List ℕ) (a : Action) (d : Delta) → Says F code first a → size ≡ moved d b.size →
-        Does F (action_with_stack_delta a d) b list.old tt result list.new }
-{
-    if b.refused != 0 {
-        return b;
+// The lists under construction, in the lent words of the list slice and the pool's index.
+#[derive(Drop)]
+pub struct CodeBuilder<'a> {
+    pub list: &'a mut [u32],
+    pub state: BuilderState,
+    pub ghost fine: { Fine state list.now } by { Fine-prop state list.now },
+}
+
+impl CodeBuilder<'_> {
+    ghost use Rattle.std.specs.Prelude.{List, ℕ, ◌+◌, ◌≤◌, ◌≡◌, T};
+    ghost use Rattle.pcode.specs.Pcode.{Action, Delta, moved, op, StoreRegister, GotoFrame, GotoFrame2, GotoLabel};
+    ghost use Rattle.lowering.specs.Builder.{action_with_stack_delta, plain_action, assume_stack_delta, mark_or, mark_label, mark_default, ends_in_push, truncate_stack, refuse};
+    ghost use Rattle.lowering.specs.Builder as steps;
+    ghost use Rattle.lowering.specs.Access as access;
+    ghost use Rattle.lowering.specs.Statement as statement;
+    ghost use Rattle.list_slice.specs.File.{names_string, text_in};
+    ghost use Rattle.codegen_state.specs.Stop.{number_of};
+    ghost use Rattle.codegen_state.specs.View.{gather, open_of, value_in, named};
+    ghost use Rattle.codegen_state.specs.Does.{Says};
+    ghost use Rattle.builder.specs.Runs.{Keeps, Runs, Emits};
+
+    // Nothing is done any more; an earlier refusal stays.
+    pub fn refuse(&mut self, stop: Stop)
+        ensures { (F : List ℕ) → Runs F (refuse {A = Unit {0}} (number_of stop)) self.old tt self.new }
+    {
+        if self.state.refused.is_none() {
+            self.state.refused = Some(stop);
+        }
     }
-    if 1024 <= b.actions {
-        return refuse(b, 8);
+
+    // An action of a code and its first word, after which the stack has this size.
+    fn emit(&mut self, code: u32, first: u32, size: u32)
+        requires entry { Emits code first }
+        requires size_bound { size ≤ self.old.state.size + 1 }
+        ensures keeps { Keeps self.old self.new }
+        ensures runs { (F : List ℕ) (a : Action) (d : Delta) → Says F code first a → size ≡ moved d self.old.state.size →
+            Runs F (action_with_stack_delta a d) self.old tt self.new }
+    {
+        if self.state.refused.is_some() {
+            return;
+        }
+        if MAX_ACTIONS <= self.state.actions {
+            self.state.refused = Some(Stop::TooMany);
+            return;
+        }
+        let list = &mut *self.list;
+        let state = &mut self.state;
+        grow(list, state, code, first, 0, 1, 0, 0, size);
     }
-    grow(list, b, code, first, 0, 1, 0, 0, size)
-}
 
-// The difference, and 0 where there is none.
-fn minus(a: u32, b: u32) -> u32
-    ensures { result ≡ a - b }
-{
-    if a < b { 0 } else { a - b }
-}
-
-pub fn action(list: &mut [u32], b: CodeBuilder, o: Op) -> CodeBuilder
-    requires { Fine b list.old }
-    ensures { (F : List ℕ) → Does F (steps.action o) b list.old tt result list.new }
-{
-    let row = row_of(o);
-    let low = minus(b.size, row.down);
-    let up = row.up;
-    if up {
-        return emit(list, b, row.code, 0, low + 1);
+    pub fn action(&mut self, o: Op)
+        ensures { (F : List ℕ) → Runs F (steps.action o) self.old tt self.new }
+    {
+        let row = row_of(o);
+        let size = row.delta.moved(self.state.size);
+        self.emit(row.code, 0, size);
     }
-    emit(list, b, row.code, 0, low)
-}
 
-// An action whose caller says by how much the stack falls.
-pub fn action_down(list: &mut [u32], b: CodeBuilder, o: Op, down: u32) -> CodeBuilder
-    requires { Fine b list.old }
-    ensures { (F : List ℕ) → Does F (plain_action (op o) (Delta.down down)) b list.old tt result list.new }
-{
-    let row = row_of(o);
-    let size = minus(b.size, down);
-    emit(list, b, row.code, 0, size)
-}
-
-pub fn store_register(list: &mut [u32], b: CodeBuilder, register: u8) -> CodeBuilder
-    requires { Fine b list.old }
-    ensures { (F : List ℕ) → Does F (access.store_register register) b list.old tt result list.new }
-{
-    emit(list, b, 0x87, register as u32, b.size)
-}
-
-pub fn goto_frame(list: &mut [u32], b: CodeBuilder, frame: u32) -> CodeBuilder
-    requires { Fine b list.old }
-    ensures { (F : List ℕ) → Does F (plain_action (GotoFrame frame) (Delta.up 0)) b list.old tt result list.new }
-{
-    emit(list, b, 0x81, frame, b.size)
-}
-
-fn bit(x: bool) -> u32
-    ensures { result ≡ entry.bit x }
-{
-    if x { 1 } else { 0 }
-}
-
-pub fn goto_frame2(list: &mut [u32], b: CodeBuilder, play: bool) -> CodeBuilder
-    requires { Fine b list.old }
-    ensures { (F : List ℕ) → Does F (plain_action (GotoFrame2 play) (Delta.down 1)) b list.old tt result list.new }
-{
-    let first = bit(play);
-    let size = minus(b.size, 1);
-    emit(list, b, 0x9F, first, size)
-}
-
-// The string is a reference, and is not pooled.
-pub fn goto_label(list: &mut [u32], b: CodeBuilder, string: u32) -> CodeBuilder
-    requires { Fine b list.old }
-    ensures { (F : List ℕ) → T (names_string F string) →
-        Does F (plain_action (GotoLabel (text_in F string)) (Delta.up 0)) b list.old tt result list.new }
-{
-    emit(list, b, 0x8C, string, b.size)
-}
-
-pub fn jump(list: &mut [u32], b: CodeBuilder, label: Label) -> CodeBuilder
-    requires { Fine b list.old }
-    ensures { (F : List ℕ) → Does F (statement.jump label.0) b list.old tt result list.new }
-{
-    emit(list, b, 0x99, label.0, b.size)
-}
-
-pub fn branch(list: &mut [u32], b: CodeBuilder, label: Label) -> CodeBuilder
-    requires { Fine b list.old }
-    ensures { (F : List ℕ) → Does F (statement.branch label.0) b list.old tt result list.new }
-{
-    let size = minus(b.size, 1);
-    emit(list, b, 0x9D, label.0, size)
-}
-
-// Whether the last item is a Push, which a value joins.
-pub fn joins(list: &[u32], b: CodeBuilder) -> bool
-    requires { Fine b list.now }
-    ensures { (F : List ℕ) → result ≡ ends_in_push (gather F (open_of b list.now)) }
-{
-    let top = b.top;
-    if b.base <= top {
-        return false;
+    // An action whose caller says by how much the stack falls.
+    pub fn action_down(&mut self, o: Op, down: u32)
+        ensures { (F : List ℕ) → Runs F (plain_action (op o) (Delta.down down)) self.old tt self.new }
+    {
+        let size = self.state.size.saturating_sub(down);
+        self.emit(row_of(o).code, 0, size);
     }
-    let code = list[top * 3];
-    0x110 <= code
-}
 
-// A value's type number and its two words.
-#[derive(Clone, Copy)]
-pub struct ValueWords {
-    pub kind: u32,
-    pub first: u32,
-    pub second: u32,
-}
+    pub fn store_register(&mut self, register: u8)
+        ensures { (F : List ℕ) → Runs F (access.store_register register) self.old tt self.new }
+    {
+        self.emit(0x87, u32::from(register), self.state.size);
+    }
 
-pub fn to_word(n: i32) -> u32
-    ensures { result ≡ unsigned n }
-{
-    if 0 <= n {
-        return n as u32;
+    pub fn goto_frame(&mut self, frame: u32)
+        ensures { (F : List ℕ) → Runs F (plain_action (GotoFrame frame) (Delta.up 0)) self.old tt self.new }
+    {
+        self.emit(0x81, frame, self.state.size);
     }
-    0xffff_ffff - ((-1 - n) as u32)
-}
 
-fn words_of(v: PushValue) -> ValueWords
-    ensures { IsValue v result }
-{
-    match v {
-        PushValue::String(s) => ValueWords {
-            kind: 0,
-            first: s,
-            second: 0,
-        },
-        PushValue::Null => ValueWords {
-            kind: 2,
-            first: 0,
-            second: 0,
-        },
-        PushValue::Undefined => ValueWords {
-            kind: 3,
-            first: 0,
-            second: 0,
-        },
-        PushValue::Register(r) => ValueWords {
-            kind: 4,
-            first: r as u32,
-            second: 0,
-        },
-        PushValue::Boolean(x) => ValueWords {
-            kind: 5,
-            first: bit(x),
-            second: 0,
-        },
-        PushValue::Float(low, high) => ValueWords {
-            kind: 6,
-            first: low,
-            second: high,
-        },
-        PushValue::Integer(n) => ValueWords {
-            kind: 7,
-            first: to_word(n),
-            second: 0,
-        },
-        PushValue::Constant(i) => ValueWords {
-            kind: 8,
-            first: i,
-            second: 0,
-        },
+    pub fn goto_frame2(&mut self, play: bool)
+        ensures { (F : List ℕ) → Runs F (plain_action (GotoFrame2 play) (Delta.down 1)) self.old tt self.new }
+    {
+        let size = self.state.size.saturating_sub(1);
+        self.emit(0x9F, u32::from(play), size);
     }
-}
 
-pub fn push(list: &mut [u32], b: CodeBuilder, v: PushValue) -> CodeBuilder
-    requires { Fine b list.old }
-    ensures { (F : List ℕ) → T (named F v) → Does F (steps.push (value_in F v)) b list.old tt result list.new }
-{
-    if b.refused != 0 {
-        return b;
+    // The string is a reference, and is not pooled.
+    pub fn goto_label(&mut self, string: u32)
+        ensures keeps { Keeps self.old self.new }
+        ensures runs { (F : List ℕ) → T (names_string F string) →
+            Runs F (plain_action (GotoLabel (text_in F string)) (Delta.up 0)) self.old tt self.new }
+    {
+        self.emit(0x8C, string, self.state.size);
     }
-    if 2048 <= b.values {
-        return refuse(b, 8);
-    }
-    let x = words_of(v);
-    let size = b.size + 1;
-    if joins(list, b) {
-        return grow(list, b, 0x120 + x.kind, x.first, x.second, 0, 1, 0, size);
-    }
-    if 1024 <= b.actions {
-        return refuse(b, 8);
-    }
-    grow(list, b, 0x110 + x.kind, x.first, x.second, 1, 1, 0, size)
-}
 
-// Only ever down: after a ternary one of two values is there.
-pub fn assume_stack_delta(b: CodeBuilder, down: u32) -> CodeBuilder
-    ensures { (F w : List ℕ) → Fine b w → Does F (assume_stack_delta (Delta.down down)) b w tt result w }
-{
-    let mut r = b;
-    r.size = minus(b.size, down);
-    r
-}
-
-pub fn truncate_stack(list: &mut [u32], b: CodeBuilder, size: u32) -> CodeBuilder
-    requires { Fine b list.old }
-    ensures { (F : List ℕ) → Does F (truncate_stack size) b list.old tt result list.new }
-{
-    let n = minus(b.size, size);
-    let mut cur = b;
-    let mut i: u32 = 0;
-    while i < n {
-        cur = action(list, cur, Op::Pop);
-        i += 1;
+    pub fn jump(&mut self, label: Label)
+        ensures { (F : List ℕ) → Runs F (statement.jump label.0) self.old tt self.new }
+    {
+        self.emit(0x99, label.0, self.state.size);
     }
-    cur
-}
 
-// The label is marked at the list's present end; a label that is marked already gives the refusal `number`.
-fn mark(list: &mut [u32], b: CodeBuilder, label: Label, number: u32) -> CodeBuilder
-    requires fine { Fine b list.old }
-    requires number_nonzero { 0 < number }
-    ensures { (F : List ℕ) → Does F (mark_or number label.0) b list.old tt result list.new }
-{
-    let l = label.0;
-    if b.refused != 0 {
-        return b;
+    pub fn branch(&mut self, label: Label)
+        ensures { (F : List ℕ) → Runs F (statement.branch label.0) self.old tt self.new }
+    {
+        let size = self.state.size.saturating_sub(1);
+        self.emit(0x9D, label.0, size);
     }
-    if b.labels <= l {
-        return refuse(b, number);
-    }
-    let at = 12288 + l as usize;
-    if list[at] != 0 {
-        return refuse(b, number);
-    }
-    let r = grow(list, b, 257, l, 0, 0, 0, 1, b.size);
-    list[at] = 1;
-    r
-}
 
-pub fn mark_label(list: &mut [u32], b: CodeBuilder, label: Label) -> CodeBuilder
-    requires { Fine b list.old }
-    ensures { (F : List ℕ) → Does F (steps.mark_label label.0) b list.old tt result list.new }
-{
-    mark(list, b, label, 24)
-}
+    // Whether the last item is a Push, which a value joins.
+    pub fn joins(&self) -> bool
+        ensures { (F : List ℕ) → result ≡ ends_in_push (gather F (open_of self.now.state self.now.list.now)) }
+    {
+        let top = self.state.top;
+        top < self.state.base && PUSH <= self.list[top * 3]
+    }
 
-// The mark of a switch's Default: 6 if another Default has marked the label.
-pub fn mark_default(list: &mut [u32], b: CodeBuilder, label: Label) -> CodeBuilder
-    requires { Fine b list.old }
-    ensures { (F : List ℕ) → Does F (mark_default label.0) b list.old tt result list.new }
-{
-    mark(list, b, label, 6)
+    pub fn push(&mut self, v: PushValue)
+        ensures keeps { Keeps self.old self.new }
+        ensures runs { (F : List ℕ) → T (named F v) → Runs F (steps.push (value_in F v)) self.old tt self.new }
+    {
+        if self.state.refused.is_some() {
+            return;
+        }
+        if MAX_VALUES <= self.state.values {
+            self.state.refused = Some(Stop::TooMany);
+            return;
+        }
+        let x = value_words(v);
+        let size = self.state.size + 1;
+        if self.joins() {
+            let list = &mut *self.list;
+            let state = &mut self.state;
+            grow(
+                list,
+                state,
+                LATER_VALUE + x.kind,
+                x.first,
+                x.second,
+                0,
+                1,
+                0,
+                size,
+            );
+            return;
+        }
+        if MAX_ACTIONS <= self.state.actions {
+            self.state.refused = Some(Stop::TooMany);
+            return;
+        }
+        let list = &mut *self.list;
+        let state = &mut self.state;
+        grow(list, state, PUSH + x.kind, x.first, x.second, 1, 1, 0, size);
+    }
+
+    // Only ever down: after a ternary one of two values is there.
+    pub fn assume_stack_delta(&mut self, down: u32)
+        ensures { (F : List ℕ) → Runs F (assume_stack_delta (Delta.down down)) self.old tt self.new }
+    {
+        self.state.size = self.state.size.saturating_sub(down);
+    }
+
+    pub fn truncate_stack(&mut self, size: u32)
+        ensures { (F : List ℕ) → Runs F (truncate_stack size) self.old tt self.new }
+    {
+        for _ in size..self.state.size {
+            self.action(Op::Pop);
+        }
+    }
+
+    // The label is marked at the list's present end; a label that is marked already gives the refusal.
+    fn mark(&mut self, label: Label, stop: Stop)
+        ensures { (F : List ℕ) → Runs F (mark_or (number_of stop) label.0) self.old tt self.new }
+    {
+        let l = label.0;
+        if self.state.refused.is_some() {
+            return;
+        }
+        if self.state.labels <= l {
+            self.state.refused = Some(stop);
+            return;
+        }
+        if self.list[LABELS + l as usize] != 0 {
+            self.state.refused = Some(stop);
+            return;
+        }
+        let list = &mut *self.list;
+        let state = &mut self.state;
+        grow_marked(list, state, l);
+    }
+
+    pub fn mark_label(&mut self, label: Label)
+        ensures { (F : List ℕ) → Runs F (steps.mark_label label.0) self.old tt self.new }
+    {
+        self.mark(label, Stop::MarkedTwice);
+    }
+
+    // The mark of a switch's Default: another Default may have marked the label.
+    pub fn mark_default(&mut self, label: Label)
+        ensures { (F : List ℕ) → Runs F (mark_default label.0) self.old tt self.new }
+    {
+        self.mark(label, Stop::SecondDefault);
+    }
 }

@@ -4,41 +4,45 @@ ghost use Rattle.lowering.specs.Builder.{create_label};
 ghost use Rattle.hir.specs.Tree.{Forest};
 ghost use Rattle.lowering.specs.Meaning.{Meaning};
 ghost use Rattle.lowering.specs.Statement.{with_labels};
-ghost use Rattle.codegen_state.specs.Does.{Fine, Does};
 ghost use Rattle.builder.specs.Labels.{labels_of_forest, elements_from};
+ghost use Rattle.builder.specs.Runs.{Keeps, Runs};
 
-use crate::entries::refuse;
-use codegen_state::CodeBuilder;
+use crate::builder::CodeBuilder;
+use codegen_state::{MAX_LABELS, Stop};
+use pcode::Label;
 
-// The label is the number of labels made before.
-pub fn create_label(b: CodeBuilder) -> CodeBuilder
-    ensures { (F w : List ℕ) → Fine b w → Does F create_label b w b.labels result w }
-{
-    if b.refused != 0 {
-        return b;
+impl CodeBuilder<'_> {
+    // The label is the number of labels made before.
+    pub fn create_label(&mut self) -> Label
+        ensures { (F : List ℕ) → Runs F create_label self.old result.0 self.new }
+    {
+        let label = Label(self.state.labels);
+        if self.state.refused.is_some() {
+            return label;
+        }
+        if MAX_LABELS <= self.state.labels {
+            self.state.refused = Some(Stop::TooMany);
+            return label;
+        }
+        self.state.labels += 1;
+        label
     }
-    if 1024 <= b.labels {
-        return refuse(b, 8);
-    }
-    let mut r = b;
-    r.labels = b.labels + 1;
-    r
-}
 
-// A label for each Case and Default of a switch, in order, the first of them the number of labels made before.
-pub fn create_labels(b: CodeBuilder, n: u32) -> CodeBuilder
-    ensures { (F w : List ℕ) (ms : Forest Meaning) → Fine b w → labels_of_forest ms ≡ n → Does F (with_labels ms) b w (elements_from b.labels ms) result w }
-{
-    if b.refused != 0 {
-        return b;
+    // A label for each Case and Default of a switch, in order, the first of them the number of labels made before.
+    pub fn create_labels(&mut self, n: u32) -> Label
+        ensures keeps { Keeps self.old self.new }
+        ensures runs { (F : List ℕ) (ms : Forest Meaning) → labels_of_forest ms ≡ n →
+            Runs F (with_labels ms) self.old (elements_from result.0 ms) self.new }
+    {
+        let first = Label(self.state.labels);
+        if self.state.refused.is_some() {
+            return first;
+        }
+        if MAX_LABELS - self.state.labels < n {
+            self.state.refused = Some(Stop::TooMany);
+            return first;
+        }
+        self.state.labels += n;
+        first
     }
-    if 1024 < n {
-        return refuse(b, 8);
-    }
-    if 1024 - n < b.labels {
-        return refuse(b, 8);
-    }
-    let mut r = b;
-    r.labels = b.labels + n;
-    r
 }

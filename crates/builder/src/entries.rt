@@ -1,9 +1,11 @@
 // Entries of the list slice: three words each.
 ghost use Rattle.std.specs.Prelude.{◌≡◌, ◌+◌, ◌*◌, ◌<◌, ◌≤◌, length};
 ghost use Rattle.codegen_state.specs.Does.{Fine};
-ghost use Rattle.builder.specs.Entries.{put3, refused_with, Grown};
+ghost use Rattle.builder.specs.Entries.{put3, Grown, Marked};
+ghost use Rattle.builder.specs.Values.{IsValue};
 
-use codegen_state::CodeBuilder;
+use codegen_state::{BuilderState, LABELS, MARK};
+use pcode::PushValue;
 
 pub fn put(list: &mut [u32], i: usize, code: u32, first: u32, second: u32)
     requires { i * 3 + 2 < length list.old }
@@ -15,19 +17,10 @@ pub fn put(list: &mut [u32], i: usize, code: u32, first: u32, second: u32)
     list[at + 2] = second;
 }
 
-// The builder after a refusal.
-pub fn refuse(b: CodeBuilder, number: u32) -> CodeBuilder
-    ensures { result ≡ refused_with b number }
-{
-    let mut r = b;
-    r.refused = number;
-    r
-}
-
 // One entry more in the list under construction: so many actions, values and marks more, and this stack size.
 pub fn grow(
     list: &mut [u32],
-    b: CodeBuilder,
+    state: &mut BuilderState,
     code: u32,
     first: u32,
     second: u32,
@@ -35,21 +28,65 @@ pub fn grow(
     values: u32,
     marks: u32,
     size: u32,
-) -> CodeBuilder
-    requires fine { Fine b list.old }
-    requires low_lt_top { b.low < b.top }
+)
+    requires fine { Fine state.old list.old }
+    requires low_lt_top { state.old.low < state.old.top }
     requires actions_bound { actions ≤ 1 }
     requires values_bound { values ≤ 1 }
     requires marks_bound { marks ≤ 1 }
-    ensures { Grown b list.old code first second actions values marks size result list.new }
+    ensures { Grown state.old list.old code first second actions values marks size state.new list.new }
 {
-    let top = b.top - 1;
-    put(list, top, code, first, second);
-    let mut r = b;
-    r.actions = b.actions + actions;
-    r.values = b.values + values;
-    r.marks = b.marks + marks;
-    r.size = size;
-    r.top = top;
-    r
+    state.top -= 1;
+    state.actions += actions;
+    state.values += values;
+    state.marks += marks;
+    state.size = size;
+    put(list, state.top, code, first, second);
+}
+
+// A mark more, and the word of its label says so.
+pub fn grow_marked(list: &mut [u32], state: &mut BuilderState, label: u32)
+    requires fine { Fine state.old list.old }
+    requires low_lt_top { state.old.low < state.old.top }
+    requires label_bound { label < state.old.labels }
+    ensures { Marked state.old list.old label state.new list.new }
+{
+    let size = state.size;
+    grow(list, state, MARK, label, 0, 0, 0, 1, size);
+    list[LABELS + label as usize] = 1;
+}
+
+// A value's type number and its two words.
+#[derive(Clone, Copy)]
+pub struct ValueWords {
+    pub kind: u32,
+    pub first: u32,
+    pub second: u32,
+}
+
+impl ValueWords {
+    fn new(kind: u32, first: u32, second: u32) -> ValueWords
+        ensures { result ≡ record { kind = kind; first = first; second = second } }
+    {
+        ValueWords {
+            kind,
+            first,
+            second,
+        }
+    }
+}
+
+pub fn value_words(v: PushValue) -> ValueWords
+    ensures { IsValue v result }
+{
+    match v {
+        PushValue::String(s) => ValueWords::new(0, s, 0),
+        PushValue::Null => ValueWords::new(2, 0, 0),
+        PushValue::Undefined => ValueWords::new(3, 0, 0),
+        PushValue::Register(r) => ValueWords::new(4, u32::from(r), 0),
+        PushValue::Boolean(x) => ValueWords::new(5, u32::from(x), 0),
+        PushValue::Float(low, high) => ValueWords::new(6, low, high),
+        PushValue::Integer(n) => ValueWords::new(7, n.cast_unsigned(), 0),
+        PushValue::Constant(i) => ValueWords::new(8, i, 0),
+    }
 }

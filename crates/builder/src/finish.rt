@@ -3,13 +3,16 @@
 ghost use Rattle.std.specs.Prelude.{◌≡◌, List, [], ◌∷◌, ℕ, ◌+◌, ◌*◌, ◌<◌, ◌≤◌, length};
 ghost use Rattle.lowering.specs.Builder.{limits01};
 ghost use Rattle.list_slice.specs.Compiled.{Holds};
-ghost use Rattle.codegen_state.specs.View.{state};
+ghost use Rattle.codegen_state.specs.View as steps;
 ghost use Rattle.codegen_state.specs.Does.{Fine, Named};
 ghost use Rattle.builder.specs.Places.{Copied, Cleared, placed, placed_at, actions_added, Located, list_at, lists_at, Standing, Finished, finished};
 
 use crate::entries::put;
 use crate::move_list::move_list;
-use codegen_state::CodeBuilder;
+use codegen_state::{
+    BuilderState, CONSTANT_POOL, LABELS, LATER_VALUE, LIST_ENDS, MARK, MAX_ENTRIES, MAX_LABELS,
+    PUSH,
+};
 use pcode::{Label, Position};
 
 // Until now a label's word says only that it is marked.
@@ -17,11 +20,7 @@ fn clear_labels(list: &mut [u32])
     requires { 13312 ≤ length list.old }
     ensures { Cleared list.old list.new }
 {
-    let mut i: usize = 12288;
-    while i != 13312 {
-        list[i] = 0;
-        i += 1;
-    }
+    list[LABELS..LIST_ENDS].fill(0);
 }
 
 // A label's word is its position plus 1, so that 0 says that no list marks it.
@@ -31,10 +30,10 @@ fn set_place(list: &mut [u32], l: Label, p: Position)
     ensures { list.new ≡ placed list.old l.0 p.0 }
 {
     let label = l.0;
-    if 1024 <= label {
+    if MAX_LABELS <= label {
         return;
     }
-    let at = 12288 + label as usize;
+    let at = LABELS + label as usize;
     if list[at] != 0 {
         return;
     }
@@ -49,7 +48,7 @@ fn set_place_at(list: &mut [u32], i: usize, p: Position)
     ensures { list.new ≡ placed_at list.old i p.0 }
 {
     let at = i * 3;
-    if list[at] != 257 {
+    if list[at] != MARK {
         return;
     }
     let label = Label(list[at + 1]);
@@ -60,13 +59,13 @@ fn set_place_at(list: &mut [u32], i: usize, p: Position)
 fn actions_added(code: u32, before: u32) -> u32
     ensures { result ≡ actions_added code before }
 {
-    if code == 257 {
+    if code == MARK {
         return 0;
     }
-    if code < 0x120 {
+    if code < LATER_VALUE {
         return 1;
     }
-    if before < 0x110 {
+    if before < PUSH {
         return 1;
     }
     0
@@ -77,11 +76,9 @@ fn label_positions(list: &mut [u32], from: usize, end: usize)
     requires { Standing list.old from end }
     ensures { (F : List ℕ) → Located list.old (list_at F list.old from end ∷ []) list.new }
 {
-    let mut i = end;
     let mut position: u32 = 0;
     let mut before: u32 = 0;
-    while i != from {
-        i -= 1;
+    for i in (from..end).rev() {
         set_place_at(list, i, Position(position));
         let code = list[i * 3];
         position += actions_added(code, before);
@@ -94,30 +91,26 @@ fn function_positions(list: &mut [u32], lists: usize)
     requires { Finished list.old lists }
     ensures { (F : List ℕ) → Located list.old (lists_at F list.old lists) list.new }
 {
-    let mut i: usize = 0;
     let mut from: usize = 0;
-    while i != lists {
-        let at = 13312 + i;
-        let end = list[at] as usize;
+    for i in 0..lists {
+        let end = list[LIST_ENDS + i] as usize;
         label_positions(list, from, end);
         from = end;
-        i += 1;
     }
 }
 
-pub fn into_actions(list: &mut [u32], b: CodeBuilder)
-    requires fine { Fine b list.old }
-    requires base_value { b.base ≡ 4096 }
-    ensures { (F v : List ℕ) → Named F b list.old → Copied list.new v →
-        Holds limits01 F (finished (state F b list.old)) v }
+// The lists of a script's builder, taken apart: what stands in the list afterwards is no builder's any more.
+pub fn into_actions(list: &mut [u32], state: BuilderState)
+    requires fine { Fine state list.old }
+    requires base_value { state.base ≡ 4096 }
+    ensures { (F v : List ℕ) → Named F state list.old → Copied list.new v →
+        Holds limits01 F (finished (steps.state F state list.old)) v }
 {
-    let from = b.low;
-    let low = move_list(list, from, b.top, 4096);
-    let lists = b.lists as usize;
-    let at = 13312 + lists;
-    list[at] = low as u32;
+    let low = move_list(list, state.low, state.top, MAX_ENTRIES);
+    let lists = state.lists as usize;
+    list[LIST_ENDS + lists] = low as u32;
     clear_labels(list);
-    label_positions(list, from, low);
+    label_positions(list, state.low, low);
     function_positions(list, lists);
-    put(list, low - 1, 0x88, b.constants, 0);
+    put(list, low - 1, CONSTANT_POOL, state.constants, 0);
 }

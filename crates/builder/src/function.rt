@@ -1,60 +1,80 @@
 // A function's list: it begins with nothing, and when it ends it is moved to the finished lists, and the list before goes on with its action.
-ghost use Rattle.std.specs.Prelude.{◌≡◌, List, ℕ, ◌+◌, ◌<◌, ◌≤◌, T};
+ghost use Rattle.std.specs.Prelude.{◌≡◌, List, ℕ, ◌+◌, ◌<◌, ◌≤◌, T, IsNone};
 ghost use Rattle.pcode.specs.Pcode.{moved};
 ghost use Rattle.lowering.specs.Builder.{define_delta};
 ghost use Rattle.list_slice.specs.File.{header_in, names_function};
 ghost use Rattle.codegen_state.specs.Does.{Fine, Ready, Ends};
-ghost use Rattle.builder.specs.Entries.{begun};
+ghost use Rattle.builder.specs.Entries.{begun, Closed};
+ghost use Rattle.builder.specs.Runs.{Keeps, EndsList};
 
-use crate::entries::{put, refuse};
+use crate::builder::CodeBuilder;
+use crate::entries::put;
 use crate::move_list::move_list;
-use codegen_state::CodeBuilder;
+use codegen_state::{BuilderState, FUNCTION, LIST_ENDS, MAX_ACTIONS, Stop};
 
-pub fn begin_function(b: CodeBuilder) -> CodeBuilder
-    requires { b.size + b.sizes < 10000 }
-    ensures { result ≡ begun b }
-{
-    let mut r = b;
-    r.size = 0;
-    r.sizes = b.sizes + b.size;
-    r.base = b.top;
-    r
+// The list that waits for a function's list to end: its first entry, and its stack size.
+#[derive(Clone, Copy)]
+pub struct Outer {
+    pub base: usize,
+    pub size: u32,
 }
 
-// `base` and `size` are those of the list before, `number` is the number of the function's record, and `up` is 1 if it leaves a value.
-pub fn end_function(
-    list: &mut [u32],
-    b: CodeBuilder,
-    base: usize,
-    size: u32,
-    number: u32,
-    up: u32,
-) -> CodeBuilder
-    requires fine { Fine b list.old }
-    requires ready { Ready b list.old base size }
+impl CodeBuilder<'_> {
+    pub fn begin_function(&mut self) -> Outer
+        ensures keeps { Keeps self.old self.new }
+        ensures state { self.new.state ≡ begun self.old.state }
+        ensures list { self.new.list.now ≡ self.old.list.now }
+        ensures outer { (result.base ≡ self.old.state.base) × (result.size ≡ self.old.state.size) }
+    {
+        let outer = Outer {
+            base: self.state.base,
+            size: self.state.size,
+        };
+        self.state.sizes += self.state.size;
+        self.state.size = 0;
+        self.state.base = self.state.top;
+        outer
+    }
+
+    // `number` is the number of the function's record, and `up` is 1 if it leaves a value.
+    pub fn end_function(&mut self, outer: Outer, number: u32, up: u32)
+        requires ready { Ready self.old.state self.old.list.now outer.base outer.size }
+        requires up_bound { up ≤ 1 }
+        ensures keeps { Keeps self.old self.new }
+        ensures ends { (F : List ℕ) → T (names_function F number) → moved (define_delta (header_in F number)) outer.size ≡ outer.size + up →
+            EndsList F (header_in F number) self.old outer.base outer.size self.new }
+    {
+        if self.state.refused.is_some() {
+            return;
+        }
+        if MAX_ACTIONS <= self.state.actions {
+            self.state.refused = Some(Stop::TooMany);
+            return;
+        }
+        let list = &mut *self.list;
+        let state = &mut self.state;
+        close(list, state, outer, number, up);
+    }
+}
+
+// The list under construction joins the finished ones, and an entry in the place of its first one has the function's number.
+fn close(list: &mut [u32], state: &mut BuilderState, outer: Outer, number: u32, up: u32)
+    requires fine { Fine state.old list.old }
+    requires going { IsNone state.old.refused }
+    requires actions_bound { state.old.actions < 1024 }
+    requires ready { Ready state.old list.old outer.base outer.size }
     requires up_bound { up ≤ 1 }
-    ensures { (F : List ℕ) → T (names_function F number) → moved (define_delta (header_in F number)) size ≡ size + up →
-        Ends F (header_in F number) b list.old base size result list.new }
+    ensures { Closed state.old list.old outer.base outer.size number up state.new list.new }
 {
-    if b.refused != 0 {
-        return b;
-    }
-    if 1024 <= b.actions {
-        return refuse(b, 8);
-    }
-    let end = b.base;
-    let low = move_list(list, b.low, b.top, end);
-    let at = 13312 + b.lists as usize;
-    list[at] = low as u32;
-    let entry = end - 1;
-    put(list, entry, 256, b.lists + 1, number);
-    let mut r = b;
-    r.actions = b.actions + 1;
-    r.lists = b.lists + 1;
-    r.size = size + up;
-    r.sizes = b.sizes - size;
-    r.low = low;
-    r.top = entry;
-    r.base = base;
-    r
+    let end = state.base;
+    let low = move_list(list, state.low, state.top, end);
+    list[LIST_ENDS + state.lists as usize] = low as u32;
+    state.actions += 1;
+    state.lists += 1;
+    state.size = outer.size + up;
+    state.sizes -= outer.size;
+    state.low = low;
+    state.top = end - 1;
+    state.base = outer.base;
+    put(list, state.top, FUNCTION, state.lists, number);
 }

@@ -1,6 +1,6 @@
 #![tactic(auto)]
 
-// The steps of lowering (`builder.rs` and the labels of `context.rs`), over a CodeBuilder by value and the lent list slice.
+// The steps of lowering (`builder.rs` and the labels of `context.rs`), as methods of a CodeBuilder over the lent list slice.
 pub mod builder;
 pub mod context;
 pub mod entries;

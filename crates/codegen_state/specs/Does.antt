@@ -1,5 +1,7 @@
 -- What holds of the words between steps, and what it means that code does a step.
-use Rattle.std.specs.Prelude.{ℕ, zero, suc, ◌+◌, ◌-◌, ◌≤◌, ◌<◌, ◌≡◌, List, [], ◌∷◌, T, length, get_or}
+use Rattle.std.specs.Prelude.{ℕ, zero, suc, ◌+◌, ◌-◌, ◌≤◌, ◌<◌, ◌≡◌, List, [], ◌∷◌, T, length, get_or, IsNone}
+use Rattle.std.specs.Coded.{×_prop, le_prop}
+use denote.Struct.Props as logic
 use Rattle.pcode.specs.Pcode.{Header, Action, Item}
 use Rattle.lowering.specs.Builder.{M}
 use Rattle.list_slice.specs.Entry.{Piece, entry, entry_of, piece_of}
@@ -7,7 +9,7 @@ use Rattle.list_slice.specs.Words.{entry_at}
 use Rattle.list_slice.specs.Items.{added}
 use Rattle.list_slice.specs.File.{in_file, names_string}
 use Rattle.list_slice.proofs.Laid.{Rising}
-use Rattle.codegen_state.specs.declared.CodeBuilder.{CodeBuilder}
+use Rattle.codegen_state.specs.declared.BuilderState.{BuilderState}
 use Rattle.codegen_state.specs.View.{labels_of, ends_of, held, after, shut, good}
 use Rattle.codegen_state.specs.Index.{Indexed}
 
@@ -27,7 +29,7 @@ Begins w base = (entry_at w (base - 1)).code < 0x120
 
 -- the counts bound each other and the room, and what is not used is zeros; the pool's entry stands at the bottom of the top list; a later value of a
 -- Push follows a value of its list
-pub record Fine (b : CodeBuilder) (w : List ℕ) : Type 0 where
+pub record Fine (b : BuilderState) (w : List ℕ) : Type 0 where
   pub long : 20480 ≤ length w
   pub low : b.low ≤ b.top
   pub base : b.top ≤ b.base
@@ -53,15 +55,23 @@ pub record Fine (b : CodeBuilder) (w : List ℕ) : Type 0 where
   pub no_end : (i : ℕ) → b.lists ≤ i → i < 1024 → get_or w (13312 + i) 0 ≡ 0
   pub no_string_lem : (i : ℕ) → b.constants ≤ i → i < 2048 → get_or w (14336 + i) 0 ≡ 0
 
+-- it has one proof at most, as a ghost field must
+Rising-prop : (p : ℕ) (es : List ℕ) (low : ℕ) → IsProp (Rising p es low)
+Rising-prop p [] low = Prim.hlevel logic.props
+Rising-prop p (e ∷ es) low = ×_prop le_prop (Rising-prop e es low)
+
+pub Fine-prop : (b : BuilderState) (w : List ℕ) → IsProp (Fine b w)
+Fine-prop b w = Prim.hlevel (Rising-prop, logic.props)
+
 -- every reference names something of the file, and the index is that of the pool
-pub record Named (F : List ℕ) (b : CodeBuilder) (w : List ℕ) : Type 0 where
+pub record Named (F : List ℕ) (b : BuilderState) (w : List ℕ) : Type 0 where
   pub finished : (i : ℕ) → i < b.low → T (good F (piece_of (entry_at w i)))
   pub unfinished : (i : ℕ) → b.top ≤ i → i < 4095 → T (good F (piece_of (entry_at w i)))
   pub strings : (i : ℕ) → i < b.constants → T (names_string F (get_or w (14336 + i) 0))
   pub indexed : Indexed F b.constants w
 
--- from a CodeBuilder and words to others, the step m is done, with the value a
-pub record Does {A : Type 0} (F : List ℕ) (m : M A) (b : CodeBuilder) (w : List ℕ) (a : A) (r : CodeBuilder) (w' : List ℕ) : Type 0 where
+-- from a BuilderState and words to others, the step m is done, with the value a
+pub record Does {A : Type 0} (F : List ℕ) (m : M A) (b : BuilderState) (w : List ℕ) (a : A) (r : BuilderState) (w' : List ℕ) : Type 0 where
   pub same : held F a r w' ≡ after (held F tt b w) m
   pub fine : Fine r w'
   pub named : Named F b w → Named F r w'
@@ -74,10 +84,10 @@ pub record Says (F : List ℕ) (code first : ℕ) (a : Action) : Type 0 where
   pub is_good : T (good F piece)
 
 -- what the code that ends a function's list asks and gives
-abbrev pub Ready : CodeBuilder → List ℕ → (base size : ℕ) → Type 0
-Ready b w base size = b.refused ≡ 0 → (b.base ≤ base) × (base ≤ 4096) × (size ≤ b.sizes) × (b.base < 4096) × (b.base < base → Begins w base)
+abbrev pub Ready : BuilderState → List ℕ → (base size : ℕ) → Type 0
+Ready b w base size = IsNone b.refused → (b.base ≤ base) × (base ≤ 4096) × (size ≤ b.sizes) × (b.base < 4096) × (b.base < base → Begins w base)
 
-pub record Ends (F : List ℕ) (h : Header) (b : CodeBuilder) (w : List ℕ) (base size : ℕ) (r : CodeBuilder) (w' : List ℕ) : Type 0 where
+pub record Ends (F : List ℕ) (h : Header) (b : BuilderState) (w : List ℕ) (base size : ℕ) (r : BuilderState) (w' : List ℕ) : Type 0 where
   pub same : held F tt r w' ≡ shut F h (base - b.base) size (held F tt b w)
   pub fine : Fine r w'
   pub named : Named F b w → Named F r w'

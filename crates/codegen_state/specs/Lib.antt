@@ -1,3 +1,4 @@
+pub mod Stop
 pub mod View
 pub mod Index
 pub mod Does

@@ -1,5 +1,5 @@
--- The state of the definition that a CodeBuilder and the words of the list slice stand for, and what waits behind it.
-use Rattle.std.specs.Prelude.{ℕ, ◌+◌, ◌-◌, ◌*◌, List, [], map, Bool, cond, ◌&&◌, eqb, length, take, drop}
+-- The state of the definition that a BuilderState and the words of the list slice stand for, and what waits behind it.
+use Rattle.std.specs.Prelude.{ℕ, ◌+◌, ◌-◌, ◌*◌, List, [], map, Bool, ◌&&◌, eqb, length, take, drop, Option, Some, None}
 use Rattle.pcode.specs.Pcode.{Value, Header, Item}
 use Rattle.pcode.specs.declared.PushValue.{PushValue}
 use Rattle.pcode.specs.declared.PushValue.TheVariants as pushing
@@ -11,7 +11,9 @@ use Rattle.list_slice.specs.Words.{run, cut}
 use Rattle.list_slice.specs.Items.{gathered, value_of}
 use Rattle.list_slice.specs.File.{text_in, in_file}
 use Rattle.list_slice.specs.Compiled.{value_named, piece_named, pool_count}
-use Rattle.codegen_state.specs.declared.CodeBuilder.{CodeBuilder}
+use Rattle.codegen_state.specs.declared.Stop.{Stop}
+use Rattle.codegen_state.specs.declared.BuilderState.{BuilderState}
+use Rattle.codegen_state.specs.Stop.{number_of}
 
 -- the areas of the slice at document 01's limits: entries, and the words at which labels, list ends, pool and rest begin
 abbrev pub max_entries : ℕ
@@ -50,19 +52,19 @@ value_in F v = value_of (in_file F []) (pushed v)
 abbrev pub named : List ℕ → PushValue → Bool
 named F v = value_named F (pushed v)
 
-abbrev pub labels_of : CodeBuilder → List ℕ → List ℕ
+abbrev pub labels_of : BuilderState → List ℕ → List ℕ
 labels_of b w = take b.labels (drop labels_from w)
 
-abbrev pub ends_of : CodeBuilder → List ℕ → List ℕ
+abbrev pub ends_of : BuilderState → List ℕ → List ℕ
 ends_of b w = take b.lists (drop ends_from w)
 
-abbrev pub pool_of : CodeBuilder → List ℕ → List ℕ
+abbrev pub pool_of : BuilderState → List ℕ → List ℕ
 pool_of b w = take b.constants (drop pool_from w)
 
-abbrev pub open_of : CodeBuilder → List ℕ → List Entry
+abbrev pub open_of : BuilderState → List ℕ → List Entry
 open_of b w = run w b.top (b.base - b.top)
 
-unfoldable pub state : List ℕ → CodeBuilder → List ℕ → State
+unfoldable pub state : List ℕ → BuilderState → List ℕ → State
 state F b w = record {
   limits = limits01;
   labels = labels_of b w;
@@ -79,7 +81,7 @@ pub record Waiting : Type 0 where
   pub entries : List Entry
   pub sizes : ℕ
 
-abbrev pub waiting : CodeBuilder → List ℕ → Waiting
+abbrev pub waiting : BuilderState → List ℕ → Waiting
 waiting b w = record { entries = run w b.base (max_entries - b.base); sizes = b.sizes }
 
 -- what a step leaves: a value, the state, and what waits; or the refusal
@@ -87,8 +89,12 @@ pub data Held (A : Type 0) : Type 0 where
   holds : A → State → Waiting → Held A
   stopped : ℕ → Held A
 
-unfoldable pub held : {A : Type 0} → List ℕ → A → CodeBuilder → List ℕ → Held A
-held F a b w = cond (eqb b.refused 0) (holds a (state F b w) (waiting b w)) (stopped b.refused)
+abbrev pub unless : {A : Type 0} → Option Stop → Held A → Held A
+unless None h = h
+unless (Some s) h = stopped (number_of s)
+
+unfoldable pub held : {A : Type 0} → List ℕ → A → BuilderState → List ℕ → Held A
+held F a b w = unless b.refused (holds a (state F b w) (waiting b w))
 
 abbrev pub back : {A : Type 0} → Waiting → Result A → Held A
 back r (ok a s) = holds a s r

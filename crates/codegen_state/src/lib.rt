@@ -1,17 +1,67 @@
 #![tactic(auto)]
 
-// The state of lowering, by value; the entries of the lists stand in the list slice.
+// The counts of lowering, by value; the entries of the lists stand in the list slice.
+ghost use Rattle.std.specs.Prelude.{◌≡◌};
+ghost use Rattle.codegen_state.specs.Stop.{number_of};
 
-// `refused` is 0, or the number of the refusal after which no step is done. Counted over all lists: actions, push values, labels made, marks, strings of
+// The areas of the list slice by their first words: labels, list ends, the pool, and behind the slice the heads and the links of the pool's index.
+pub const LABELS: usize = 12288;
+
+pub const LIST_ENDS: usize = 13312;
+
+pub const POOL: usize = 14336;
+
+pub const HEADS: usize = 16384;
+
+pub const LINKS: usize = 18432;
+
+// The slice's entries, and document 01's limits.
+pub const MAX_ENTRIES: usize = 4096;
+
+pub const MAX_ACTIONS: u32 = 1024;
+
+pub const MAX_VALUES: u32 = 2048;
+
+pub const MAX_LABELS: u32 = 1024;
+
+// The codes of entries other than actions without operands: the pool, a function, a mark, the first value of a Push and a later one of type 0.
+pub const CONSTANT_POOL: u32 = 0x88;
+
+pub const FUNCTION: u32 = 256;
+
+pub const MARK: u32 = 257;
+
+pub const PUSH: u32 = 0x110;
+
+pub const LATER_VALUE: u32 = 0x120;
+
+// Why no step is done any more. The discriminants are the refusals' numbers; no script of ours marks a label twice.
+#[derive(Clone, Copy, Debug, PartialEq, Eq)]
+pub enum Stop {
+    NotAssignable = 5,
+    SecondDefault = 6,
+    Negation = 7,
+    TooMany = 8,
+    MarkedTwice = 24,
+}
+
+impl Stop {
+    pub fn number(self) -> u32
+        ensures { result ≡ number_of self }
+    {
+        self as u32
+    }
+}
+
+// After `refused` no step is done. Counted over all lists: actions, push values, labels made, marks, strings of
 // the pool, finished lists. `total` is the pool's 16-bit total, `size` the tracked stack size, `sizes` the sum of those of the lists that wait for a
 // function's list to end. The finished lists end before entry `low`; the list under construction stands from entry `top` to `base`, its last entry
-// first, and the lists that wait from `base` on. What nearly every step changes stands before the rest: the struct is copied in pieces, and the
-// pieces that no step changed wait for none.
+// first, and the lists that wait from `base` on.
 #[derive(Clone, Copy)]
-pub struct CodeBuilder {
+pub struct BuilderState {
     pub actions: u32,
     pub size: u32,
-    pub refused: u32,
+    pub refused: Option<Stop>,
     pub values: u32,
     pub low: usize,
     pub top: usize,

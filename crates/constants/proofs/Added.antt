@@ -13,7 +13,7 @@ use borrow.Author.Tests.{eqb-true, eqb-false, ne_eqb}
 use Rattle.lowering.specs.Builder.{with_constants}
 use Rattle.list_slice.specs.Words.{entry_at, run}
 use Rattle.list_slice.specs.File.{text_in, names_string}
-use Rattle.codegen_state.specs.declared.CodeBuilder.{CodeBuilder}
+use Rattle.codegen_state.specs.declared.BuilderState.{BuilderState}
 use Rattle.codegen_state.specs.View.{labels_of, ends_of, pool_of, gather, state, waiting}
 use Rattle.codegen_state.specs.Does.{Fine, Named}
 use Rattle.builder.proofs.Words.{entry_side}
@@ -28,7 +28,7 @@ written_behind x a v k m h =
     let e : a ≡ k + (a - k) = omega arith in
     rw (e, drop-set-add k x (a - k) v, take-set-le m (drop k x) (a - k) v (omega arith))
 
-module _ (F : List ℕ) (r : CodeBuilder) (w : List ℕ) (s n h : ℕ) (f : Fine r w) (room : r.constants < r.values) (small : h < 2048) where
+module _ (F : List ℕ) (r : BuilderState) (w : List ℕ) (s n h : ℕ) (f : Fine r w) (room : r.constants < r.values) (small : h < 2048) where
   abbrev at : ℕ
   at = 14336 + r.constants
 
@@ -169,7 +169,7 @@ module _ (F : List ℕ) (r : CodeBuilder) (w : List ℕ) (s n h : ℕ) (f : Fine
         other_word (18432 + k) (λ o. omega (arith, f.values)) (λ o. z (omega arith)) (λ o. omega arith) ∙ x.links k less ∙ ap (λ (g : ℕ). latest hs g k) (other_hash k less)
         ∙ latest_same hs hs' (hs' k) k (λ j p. other_hash j (omega arith))
 
-    added_indexed : Indexed F (r.constants + 1) w'
+    pub added_indexed : Indexed F (r.constants + 1) w'
     added_indexed = record { heads = λ g q. head_at_lem g q (eqb g h) refl; links = λ k q. link_at k q (eqb k r.constants) refl }
 
   pub added_named : h ≡ hash (text_in F s) → T (names_string F s) → Named F r w → Named F (added r n) w'

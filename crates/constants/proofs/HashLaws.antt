@@ -24,21 +24,21 @@ hash_short s {w} p e q =
     let first : length s - 4 * 0 - 4 ≡ 0 = omega arith in
     rw (q, e, ← one, first)
 
--- the loop of `bucket`: k words of each end are taken, of m
-pub record Hashed (s : List ℕ) (m h k : ℕ) : Type 0 where
+-- the loop of `bucket`: k words of each end are taken
+pub record Hashed (s : List ℕ) (h k : ℕ) : Type 0 where
   pub small : h < 8589934592
-  pub within : k ≤ m
+  pub within : k ≤ rounds (length s)
   pub taken : h ≡ hashed s k
 
-pub hashed_none : (s : List ℕ) (m : ℕ) → Hashed s m (length s % 65536) 0
+pub hashed_none : (s : List ℕ) → Hashed s (length s % 65536) 0
 unfolding hashed
-hashed_none s m = record { small = omega arith; within = omega arith; taken = refl }
+hashed_none s = record { small = omega arith; within = omega arith; taken = refl }
 
-module _ {s : List ℕ} {m h k : ℕ} (v : Hashed s m h k) where
-  pub hashed_more : k < m → {a b h' : ℕ} → a ≡ word s (4 * k) → b ≡ word s (length s - 4 * k - 4) → (h' ≡ mixed h a b) × (h' < 8589934592) → Hashed s m h' (k + 1)
+module _ {s : List ℕ} {h k : ℕ} (v : Hashed s h k) where
+  pub hashed_more : k < rounds (length s) → {a b h' : ℕ} → a ≡ word s (4 * k) → b ≡ word s (length s - 4 * k - 4) → (h' ≡ mixed h a b) × (h' < 8589934592) → Hashed s h' (k + 1)
   unfolding hashed
   hashed_more p e f q = record { small = q.1; within = omega arith; taken = rw (add-one, q.0, v.taken, e, f) }
 
-  pub hashed_all : m ≤ k → m ≡ rounds (length s) → h % 2048 ≡ hash s
+  pub hashed_all : rounds (length s) ≤ k → h % 2048 ≡ hash s
   unfolding hash
-  hashed_all p e = let all : k ≡ rounds (length s) = omega (arith, v.within) in rw (v.taken, all)
+  hashed_all p = let all : k ≡ rounds (length s) = omega (arith, v.within) in rw (v.taken, all)

@@ -8,19 +8,18 @@ use native.Mathlib.Omega.{arith}
 use lib.Dec.{T, ltb}
 use lib.ListN.{length, length-take, length-drop, length-map}
 use borrow.Author.Tests.{lt-ltb, le-leb, lt-leb}
+use Rattle.std.specs.Prelude.{Option, Some, None, IsSome, IsNone}
 use Rattle.hir.specs.Hir.{Str}
 use Rattle.pcode.specs.Pcode.{Value}
 use Rattle.lowering.specs.Builder.{State, Result, ok, refused, ◌>>=◌, allow, with_constants, push_joined, ends_in_push, push, add, push_string}
 use Rattle.list_slice.specs.File.{text_in, names_string}
-use Rattle.codegen_state.specs.declared.CodeBuilder.{CodeBuilder}
+use Rattle.codegen_state.specs.declared.BuilderState.{BuilderState}
 use Rattle.codegen_state.specs.View.{pool_of, state, Waiting, waiting, Held, holds, stopped, held, back, carry, after}
 use Rattle.codegen_state.specs.Does.{Fine, Does}
 use Rattle.codegen_state.proofs.Steps.{held_stopped, held_holds}
-use Rattle.constants.specs.declared.Found.{Found}
-use Rattle.constants.specs.declared.Found.TheVariants as found
-use Rattle.codegen_state.specs.Index.{hash}
+use Rattle.codegen_state.specs.Index.{hash, Indexed}
 use Rattle.constants.specs.Pool.{place, found_of, added, joining, Added}
-use Rattle.constants.proofs.Added.{state_added, waiting_added, added_fine, added_named}
+use Rattle.constants.proofs.Added.{state_added, waiting_added, added_fine, added_indexed, added_named}
 
 -- the pool alone is replaced
 abbrev with_pool : {A : Type 0} → List Str → ℕ → Result A → Result A
@@ -76,17 +75,17 @@ kept : (r : Waiting) {r' : Waiting} (v : Value) (s : State) {x : State} → hold
 unfolding push
 kept r v s e = kept_values r v s (ltb s.values s.limits.values) e
 
-pool_length : (F : List ℕ) {b : CodeBuilder} {w : List ℕ} → Fine b w → length (map (text_in F) (pool_of b w)) ≡ b.constants
+pool_length : (F : List ℕ) {b : BuilderState} {w : List ℕ} → Fine b w → length (map (text_in F) (pool_of b w)) ≡ b.constants
 pool_length F f = simp (length-map, length-take, length-drop) (omega (arith, f.long, f.constants, f.values))
 
 -- the pool and its total after a string joins
-abbrev new_pool : List ℕ → CodeBuilder → (w : List ℕ) → ℕ → List Str
+abbrev new_pool : List ℕ → BuilderState → (w : List ℕ) → ℕ → List Str
 new_pool F b w s = map (text_in F) (pool_of b w) ++ (text_in F s ∷ [])
 
-abbrev new_total : List ℕ → CodeBuilder → ℕ → ℕ
+abbrev new_total : List ℕ → BuilderState → ℕ → ℕ
 new_total F b s = b.total + (length (text_in F s) + 1)
 
-module _ (F : List ℕ) (b : CodeBuilder) (w : List ℕ) (s : ℕ) (f : Fine b w) (h : b.refused ≡ 0) where
+module _ (F : List ℕ) (b : BuilderState) (w : List ℕ) (s : ℕ) (f : Fine b w) (h : IsNone b.refused) where
   -- the string is known
   known : (i : ℕ) → some i ≡ place F (pool_of b w) s → after (held F tt b w) (push_string (text_in F s)) ≡ after (held F tt b w) (push (Value.Constant i))
   unfolding after carry ◌>>=◌ add state
@@ -114,8 +113,8 @@ module _ (F : List ℕ) (b : CodeBuilder) (w : List ℕ) (s : ℕ) (f : Fine b w
       ) (back_with (new_pool F b w s) (new_total F b s) (waiting b w) (push (Value.Constant b.constants) (state F b w)))
 
 -- what a push that is not refused leaves, so that a string can be added
-module _ {F : List ℕ} {b : CodeBuilder} {w : List ℕ} {r : CodeBuilder} {w₁ : List ℕ} (f : Fine b w) (h : b.refused ≡ 0)
-    (d : Does F (push (Value.Constant b.constants)) b w tt r w₁) (q : r.refused ≡ 0) where
+module _ {F : List ℕ} {b : BuilderState} {w : List ℕ} {r : BuilderState} {w₁ : List ℕ} (f : Fine b w) (h : IsNone b.refused)
+    (d : Does F (push (Value.Constant b.constants)) b w tt r w₁) (q : IsNone r.refused) where
   kept_here : Kept (state F b w) (state F r w₁)
   unfolding after carry
   kept_here = kept (waiting b w) (Value.Constant b.constants) (state F b w) (rw (held_holds F (tt {0}) b w h, held_holds F (tt {0}) r w₁ q) at d.same)
@@ -132,49 +131,54 @@ module _ {F : List ℕ} {b : CodeBuilder} {w : List ℕ} {r : CodeBuilder} {w₁
   unfolding state
   one_value = kept_here.values
 
-  room : r.constants < r.values
+  pub room : r.constants < r.values
   room = omega (arith, pool_length F d.fine, pool_length F f, ap length same_pool, one_value, f.constants)
 
-  pub add_room : {n h : ℕ} → n < 65535 - b.total → h < 2048 → (20480 ≤ length w₁) × ((r.constants < 2048) × ((r.total + (n + 1) ≤ 65535) × (h < 2048)))
-  add_room k small = (d.fine.long, (omega (arith, room, d.fine.values), (omega (arith, same_total), small)))
+  pub total_fits : {n : ℕ} → n < 65535 - b.total → r.total + (n + 1) ≤ 65535
+  total_fits k = omega (arith, same_total)
+
+-- the index after it
+pub pushed_indexed : {F : List ℕ} {s n h : ℕ} {r r' : BuilderState} {w w' : List ℕ} → Fine r w → r.constants < r.values → (h ≡ hash (text_in F s)) × (h < 2048) → Added r w s n h r' w' →
+    Indexed F r.constants w → Indexed F r'.constants w'
+pushed_indexed {F} {s} {n} {h} {r} {w = w} f few g a x = rw (a.new, a.words) (added_indexed F r w s n h f few g.1 g.0 x)
 
 -- what `push_string` does in each case
-module _ (F : List ℕ) (s : ℕ) {b : CodeBuilder} {w : List ℕ} (f : Fine b w) (h : b.refused ≡ 0) where
-  pub push_known : {g : Found} {i : ℕ} → g ≡ found.At i → found_of g ≡ place F (pool_of b w) s → {r : CodeBuilder} {w' : List ℕ} → Does F (push (Value.Constant i)) b w tt r w' →
+module _ (F : List ℕ) (s : ℕ) {b : BuilderState} {w : List ℕ} (f : Fine b w) (h : IsNone b.refused) where
+  pub push_known : {g : Option ℕ} {i : ℕ} → g ≡ Some i → found_of g ≡ place F (pool_of b w) s → {r : BuilderState} {w' : List ℕ} → Does F (push (Value.Constant i)) b w tt r w' →
       Does F (push_string (text_in F s)) b w tt r w'
   push_known {i = i} e p d = record { same = rw (known F b w s f h i (rw e at p), d.same); fine = d.fine; named = d.named }
 
-  pub not_known : {g : Found} → g ≡ found.Nothing → found_of g ≡ place F (pool_of b w) s → place F (pool_of b w) s ≡ none
+  pub not_known : {g : Option ℕ} → g ≡ None → found_of g ≡ place F (pool_of b w) s → place F (pool_of b w) s ≡ none
   not_known e p = sym (rw e at p)
 
   module _ {x : List ℕ} (text : x ≡ text_in F s) (e : place F (pool_of b w) s ≡ none) where
-    pub push_unpooled : 65535 - b.total ≤ length x → {r : CodeBuilder} {w' : List ℕ} → Does F (push (Value.String (text_in F s))) b w tt r w' →
+    pub push_unpooled : 65535 - b.total ≤ length x → {r : BuilderState} {w' : List ℕ} → Does F (push (Value.String (text_in F s))) b w tt r w' →
         Does F (push_string (text_in F s)) b w tt r w'
     push_unpooled k d = record { same = rw (unpooled F b w s f h e (rw (← text) (omega (arith, f.total))), d.same); fine = d.fine; named = d.named }
 
-    module _ (k : length x < 65535 - b.total) {r : CodeBuilder} {w₁ : List ℕ} (d : Does F (push (Value.Constant b.constants)) b w tt r w₁) where
+    module _ (k : length x < 65535 - b.total) {r : BuilderState} {w₁ : List ℕ} (d : Does F (push (Value.Constant b.constants)) b w tt r w₁) where
       joined : after (held F tt b w) (push_string (text_in F s)) ≡ held_with (new_pool F b w s) (new_total F b s) (held F tt r w₁)
       joined = pooled F b w s f h e (rw (← text) (omega arith)) ∙ simp d.same
 
-      pub push_refused : (r.refused ≡ 0 → ⊥) → Does F (push_string (text_in F s)) b w tt r w₁
+      pub push_refused : IsSome r.refused → Does F (push_string (text_in F s)) b w tt r w₁
       push_refused q = record { same = rw (joined, held_stopped F (tt {0}) r w₁ q); fine = d.fine; named = d.named }
 
-      pub push_added : (q : r.refused ≡ 0) {r' : CodeBuilder} {w' : List ℕ} {h' : ℕ} → (h' ≡ hash (text_in F s)) × (h' < 2048) → T (names_string F s) → Added r w₁ s (length x + 1) h' r' w' →
-          Does F (push_string (text_in F s)) b w tt r' w'
-      push_added q {h' = h'} g t a =
-          let fits = room f h d q in
-          rw (a.new, a.words) (record {
-            same =
-                rw (
-                  joined,
-                  held_holds F (tt {0}) r w₁ q,
-                  held_holds F (tt {0}) (added r (length x + 1)) (joining w₁ r.constants s h') q,
-                  state_added F r w₁ s (length x + 1) h' d.fine fits g.1,
-                  waiting_added F r w₁ s (length x + 1) h' d.fine fits g.1,
-                  same_pool f h d q,
-                  same_total f h d q,
-                  ← text,
-                );
-            fine = added_fine F r w₁ s (length x + 1) h' d.fine fits g.1 (omega (arith, same_total f h d q));
-            named = λ n. added_named F r w₁ s (length x + 1) h' d.fine fits g.1 g.0 t (d.named n);
-          })
+      module _ (q : IsNone r.refused) {r' : BuilderState} {w' : List ℕ} {h' : ℕ} (g : (h' ≡ hash (text_in F s)) × (h' < 2048)) (a : Added r w₁ s (length x + 1) h' r' w') where
+        pub push_added : T (names_string F s) → Does F (push_string (text_in F s)) b w tt r' w'
+        push_added t =
+            let fits = room f h d q in
+            rw (a.new, a.words) (record {
+              same =
+                  rw (
+                    joined,
+                    held_holds F (tt {0}) r w₁ q,
+                    held_holds F (tt {0}) (added r (length x + 1)) (joining w₁ r.constants s h') q,
+                    state_added F r w₁ s (length x + 1) h' d.fine fits g.1,
+                    waiting_added F r w₁ s (length x + 1) h' d.fine fits g.1,
+                    same_pool f h d q,
+                    same_total f h d q,
+                    ← text,
+                  );
+              fine = added_fine F r w₁ s (length x + 1) h' d.fine fits g.1 (omega (arith, same_total f h d q));
+              named = λ n. added_named F r w₁ s (length x + 1) h' d.fine fits g.1 g.0 t (d.named n);
+            })

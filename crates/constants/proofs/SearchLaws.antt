@@ -3,12 +3,14 @@ use Prim.Native.Nat.{ℕ, zero, suc, ◌+◌, ◌-◌, ◌≤◌, ◌<◌}
 use mathlib.Core.Path.{◌≡◌, refl, sym, ap, ◌∙◌}
 use mathlib.Core.List.{List, [], ◌∷◌, map}
 use mathlib.Core.Bool.{Bool, true, false, cond}
-use mathlib.Core.Option.{Option, none, some}
+use mathlib.Core.Option.{none, some}
+use mathlib.Core.Option as math
 use native.Mathlib.Omega.{arith}
 use lib.ListN.{length, get_or, take, drop, length-take, length-drop, drop_of_length-le}
 use lib.Seq.{drop-cons, get_or-take, get_or-drop}
 use lib.Dec.{eqb}
 use borrow.Author.Tests.{eq-eqb, ne_eqb, eqb-false}
+use Rattle.std.specs.Prelude.{Option, None}
 use Rattle.hir.specs.Hir.{Str}
 use Rattle.special_properties.specs.SpecialProperties.{same_bytes}
 use Rattle.script_records.specs.declared.layout.Layout.{Layout}
@@ -18,8 +20,6 @@ use Rattle.list_slice.specs.File.{no_string, text_in}
 use Rattle.codegen_state.specs.Index.{hash, latest, hash_at, Indexed}
 use Rattle.codegen_state.proofs.Index.{latest_le, latest_again, latest_has}
 use Rattle.special_properties.proofs.Laws.{same_bytes_equal}
-use Rattle.constants.specs.declared.Found.{Found}
-use Rattle.constants.specs.declared.Found.TheVariants as found
 use Rattle.constants.specs.Pool.{place, found_of}
 
 pub text_none : (F : List ℕ) (s : ℕ) → s ≡ no_string → [] ≡ text_in F s
@@ -37,7 +37,7 @@ same_reference F {s} {t} e = sym ((same_bytes_equal (text_in F s) (text_in F t))
 find_here : (p : Str → Bool) (i : ℕ) (x : Str) (xs : List Str) → find p i (x ∷ xs) ≡ cond (p x) (some i) (find p (suc i) xs)
 find_here p i x xs = go (p x)
   where
-    go : (b : Bool) → ◌≡◌ {A = Option ℕ} (elim b [ true ↦ some i | false ↦ find p (suc i) xs ]) (cond b (some i) (find p (suc i) xs))
+    go : (b : Bool) → ◌≡◌ {A = math.Option ℕ} (elim b [ true ↦ some i | false ↦ find p (suc i) xs ]) (cond b (some i) (find p (suc i) xs))
     go true = refl
     go false = refl
 
@@ -55,14 +55,14 @@ pool w n = take n (drop 14336 w)
 
 module _ (F w : List ℕ) (n s : ℕ) where
   -- the first place from i on
-  abbrev place_from : ℕ → Option ℕ
+  abbrev place_from : ℕ → math.Option ℕ
   place_from i = find (same_bytes (text_in F s)) i (map (text_in F) (drop i (pool w n)))
 
   abbrev sought_hash : ℕ
   sought_hash = hash (text_in F s)
 
   -- the loop of `find`: of the strings from `next` on, it was found
-  pub record Searching (next : ℕ) (f : Found) : Type 0 where
+  pub record Searching (next : ℕ) (f : Option ℕ) : Type 0 where
     pub within : next ≤ n
     pub latest_is : next ≡ latest (hash_at F w) sought_hash next
     pub rest : found_of f ≡ place_from next
@@ -89,7 +89,7 @@ module _ (F w : List ℕ) (n s : ℕ) where
     none_from = rw (drop_of_length-le (pool w n) {i = n} (simp length-take (omega arith)), find)
 
     module _ (x : Indexed F n w) where
-      pub search_starts : {h next : ℕ} → (h ≡ sought_hash) × (h < 2048) → next ≡ get_or w (16384 + h) 0 → Searching next found.Nothing
+      pub search_starts : {h next : ℕ} → (h ≡ sought_hash) × (h < 2048) → next ≡ get_or w (16384 + h) 0 → Searching next None
       search_starts {h} {next} p e =
           let q : next ≡ latest (hash_at F w) sought_hash n = e ∙ x.heads h p.1 ∙ ap (λ (k : ℕ). latest (hash_at F w) k n) p.0 in
           record {
@@ -98,7 +98,7 @@ module _ (F w : List ℕ) (n s : ℕ) where
             rest = rw q (sym (passed_over n (omega arith) ∙ none_from));
           }
 
-      pub search_goes_on : {next : ℕ} {f g : Found} {t : Bool} {i after : ℕ} → Searching next f → (next ≡ 0 → ⊥) → i ≡ next - 1 →
+      pub search_goes_on : {next : ℕ} {f g : Option ℕ} {t : Bool} {i after : ℕ} → Searching next f → (next ≡ 0 → ⊥) → i ≡ next - 1 →
           t ≡ same_bytes (text_in F s) (text_in F (get_or w (14336 + i) 0)) → found_of g ≡ cond t (some i) (found_of f) → after ≡ get_or w (18432 + i) 0 → Searching after g
       search_goes_on {next} {f} {g} {t} {i} {after} v z d u r a =
           let m : next ≡ suc i = omega arith in
@@ -111,8 +111,8 @@ module _ (F w : List ℕ) (n s : ℕ) where
             rest = rw q (r ∙ rw (u, v.rest, m) (sym (passed_over i (omega arith) ∙ place_at_index i less)));
           }
 
-      pub search_falls : {next : ℕ} {f : Found} {i after : ℕ} → Searching next f → (next ≡ 0 → ⊥) → i ≡ next - 1 → after ≡ get_or w (18432 + i) 0 → after < next
+      pub search_falls : {next : ℕ} {f : Option ℕ} {i after : ℕ} → Searching next f → (next ≡ 0 → ⊥) → i ≡ next - 1 → after ≡ get_or w (18432 + i) 0 → after < next
       search_falls {next} {f} {i} v z d a = omega (arith, a ∙ x.links i (omega (arith, v.within)), latest_le (hash_at F w) (hash_at F w i) i)
 
-    pub search_ends : {next : ℕ} {f : Found} → Searching next f → next ≡ 0 → found_of f ≡ place F (pool w n) s
+    pub search_ends : {next : ℕ} {f : Option ℕ} → Searching next f → next ≡ 0 → found_of f ≡ place F (pool w n) s
     search_ends v z = v.rest ∙ ap place_from z

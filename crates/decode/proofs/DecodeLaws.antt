@@ -1,128 +1,101 @@
 -- Decoding: tables and two's complement.
-use Prim.Native.Nat.{ℕ, zero, suc, ◌-◌, ◌%◌, ◌^◌, ◌≤◌, ◌<◌}
+use Prim.Native.Nat.{ℕ, zero, suc, ◌-◌, ◌/◌, ◌%◌, ◌^◌, ◌≤◌, ◌<◌}
 use mathlib.Core.Path.{◌≡◌, refl, sym, ap, ◌∙◌}
-use mathlib.Core.List.{List, [], ◌∷◌}
-use lib.ListN.{length, get_or, get_or-eq_default}
-use Rattle.hir.specs.declared.UnaryOperator.TheVariants as unary
-use Rattle.hir.specs.declared.ConstantKind.TheVariants as constant
-use Rattle.hir.specs.declared.ConstantKind.{ConstantKind}
-use Rattle.hir.specs.declared.ForCondition.{ForCondition}
-use Rattle.hir.specs.declared.StatementKind.{StatementKind}
-use Rattle.hir.specs.declared.StatementKind.TheVariants as statement
-use Rattle.hir.specs.declared.ExprKind.{ExprKind}
-use Rattle.hir.specs.declared.ExprKind.TheVariants as expr
+use mathlib.Core.List.{List}
+use lib.ListN.{length, get_or}
 use Rattle.hir.specs.declared.Record.TheVariants as kind
-use mathlib.Core.Bool.{Bool, true, false}
-use native.Mathlib.Nat.{zero-add}
+use mathlib.Core.Bool.{Bool, false}
 use native.Mathlib.Omega.{arith}
-use lib.IntN.{pos, negsuc, ◌-ℤ◌}
+use lib.IntN.{pos, negsuc}
 use mir.Syntax.{w32}
-use mir.Val.{SFits, to_z, of_z}
-use mir.ValLaws.{to_z_pos, to_z-of_z}
-use borrow.Author.Tests.{lt-ltb, le-ltb, eq-eqb, ne_eqb}
-use Rattle.decode.specs.Decode.{signed, is_one, affix_of, unary_of, constant_of, condition_of, statement_kinds, expr_kinds, when, plain_of, record_of}
-use Rattle.script_records.specs.Layout.{Words, supported}
+use mir.Val.{to_z}
+use Rattle.std.proofs.Math.Facts.{to_z_pos, to_z-neg}
+use Rattle.std.proofs.Common.{inl, inr}
+use Rattle.std.proofs.lemmas.Bool.{cases_lt}
+use lib.Dec.{eqb-suc-zero}
+use borrow.Author.Tests.{lt-ltb, le-ltb, ne_eqb}
+use Rattle.std.specs.Prelude.{◌⊎◌, Option, Some, None, SomeIff, Err}
+use Rattle.std.proofs.Math.Nat.{div-one}
+use Rattle.std.proofs.lemmas.List.FromFn.{fill_by_all}
+use Rattle.script_records.specs.declared.kind.UnknownKind.{UnknownKind}
+use Rattle.script_records.specs.Kind.{kind_from}
+use Rattle.script_records.proofs.KindLaws.{unknown_from}
+use Rattle.script_records.proofs.LayoutLaws.{supported_high}
+use Rattle.decode.specs.Decode.{signed, is_one, plain_of, record_of, name_of, marks_of}
+use Rattle.script_records.specs.Layout.{Words}
 
-pub signed_low : (w : ℕ) → w < 2 ^ 31 → pos w ≡ signed w
+signed_low : (w : ℕ) → w < 2 ^ 31 → pos w ≡ signed w
 unfolding signed
 signed_low w h = rw (lt-ltb w (2 ^ 31) h)
 
-pub signed_high : (w : ℕ) → 2 ^ 31 ≤ w → negsuc (2 ^ 32 - 1 - w) ≡ signed w
+signed_high : (w : ℕ) → 2 ^ 31 ≤ w → negsuc (2 ^ 32 - 1 - w) ≡ signed w
 unfolding signed
 signed_high w h = rw (le-ltb w (2 ^ 31) h)
 
-less_one : (k : ℕ) → negsuc 0 -ℤ pos k ≡ negsuc k
-less_one zero = refl
-less_one (suc k) = ap (λ n. negsuc (suc n)) (zero-add k)
+pub cast_is_signed : (w : ℕ) → w < 2 ^ 32 → to_z w32 w ≡ signed w
+cast_is_signed w h =
+    elim (cases_lt w (2 ^ 31)) [
+      | inl low ↦ to_z_pos w32 low ∙ signed_low w low
+      | inr high ↦
+          let e : w ≡ 2 ^ 32 - suc (2 ^ 32 - 1 - w) = omega arith in
+          ap (to_z w32) e ∙ (to_z-neg w32 (2 ^ 32 - 1 - w) (omega arith) ∙ signed_high w high)
+    ]
 
--- a high word w: -1 less the distance to the highest
-module _ (w : ℕ) (high : 2 ^ 31 ≤ w) where
-  difference : negsuc 0 -ℤ to_z w32 (2 ^ 32 - 1 - w) ≡ negsuc (2 ^ 32 - 1 - w)
-  difference = rw (to_z_pos w32 (2 ^ 32 - 1 - w) (omega arith)) (less_one (2 ^ 32 - 1 - w))
+-- kinds behind the expressions that are not named
+plain_high : (k : ℕ) → 78 ≤ k → (k ≡ 96 → ⊥) → (k ≡ 100 → ⊥) → (k ≡ 101 → ⊥) → plain_of k ≡ kind.Other
+unfolding plain_of
+plain_high k h p q r =
+    rw (← supported_high k (λ e. omega arith) (omega arith), le-ltb k 16 (omega arith), le-ltb k 32 (omega arith), le-ltb k 78 h, ne_eqb k 96 p, ne_eqb k 100 q, ne_eqb k 101 r)
 
-  pub high_fits : SFits w32 (negsuc 0 -ℤ to_z w32 (2 ^ 32 - 1 - w))
-  high_fits = rw difference (record { sfits = omega arith })
+-- kinds between the statements and the expressions
+plain_gap : (k : ℕ) → 16 ≤ k → k < 32 → plain_of k ≡ kind.Other
+unfolding plain_of
+plain_gap k h l = rw (← supported_high k (λ e. omega arith) (omega arith), le-ltb k 16 h, lt-ltb k 32 l)
 
-  pub high_value : w < 2 ^ 32 → to_z w32 (of_z w32 (negsuc 0 -ℤ to_z w32 (2 ^ 32 - 1 - w))) ≡ signed w
-  high_value h = to_z-of_z w32 _ high_fits ∙ difference ∙ signed_high w high
-
--- what stands in a list does not depend on what would stand past its end
-pub any_default : {A : Type 0} (l : List A) (i : ℕ) (d e : A) → i < length l → get_or l i d ≡ get_or l i e
-any_default [] i d e h = absurd (omega arith)
-any_default (x ∷ l) zero d e h = refl
-any_default (x ∷ l) (suc i) d e h = any_default l i d e (omega arith)
-
-five : (a : ℕ) → (a ≡ 0 → ⊥) → (a ≡ 1 → ⊥) → (a ≡ 2 → ⊥) → (a ≡ 3 → ⊥) → (a ≡ 4 → ⊥) → 5 ≤ a
-five a p q r s t = omega arith
-
--- none of the first five places
-pub unary_rest : (a b : ℕ) → ((((Unit {0} × (a ≡ 0 → ⊥)) × (a ≡ 1 → ⊥)) × (a ≡ 2 → ⊥)) × (a ≡ 3 → ⊥)) × (a ≡ 4 → ⊥) → unary.LogicalNot ≡ unary_of a b
-unfolding unary_of
-unary_rest a b r =
-    sym (get_or-eq_default (unary.Sub ∷ unary.Add ∷ unary.BitNot ∷ unary.Increment (affix_of b) ∷ unary.Decrement (affix_of b) ∷ []) unary.LogicalNot
-    (five a r.0.0.0.0.1 r.0.0.0.1 r.0.0.1 r.0.1 r.1))
-
--- none of the first five places of a constant
-pub constant_rest : (w : Words) → ((((Unit {0} × (w.a ≡ 0 → ⊥)) × (w.a ≡ 1 → ⊥)) × (w.a ≡ 2 → ⊥)) × (w.a ≡ 3 → ⊥)) × (w.a ≡ 4 → ⊥) →
-    constant.Register (w.b % 256) ≡ constant_of w
-unfolding constant_of
-constant_rest w r =
-    sym (get_or-eq_default (constant.String w.b ∷ constant.Identifier w.b ∷ constant.Float w.b w.c ∷ constant.Integer (signed w.b) ∷
-    constant.Boolean (is_one w.b) ∷ []) (constant.Register (w.b % 256)) (five w.a r.0.0.0.0.1 r.0.0.0.1 r.0.0.1 r.0.1 r.1))
-
--- the records whose kind says all of them
-module _ (k : ℕ) {s : Bool} (e : s ≡ supported k) where
-  pub plain_unsupported : s ≡ false → kind.Other ≡ plain_of k
-  unfolding plain_of
-  plain_unsupported h = rw (← e, h)
-
-  module _ (h : s ≡ true) where
-    pub plain_statement : k < 16 → {x : StatementKind} → x ≡ get_or statement_kinds k statement.Break → kind.Statement x ≡ plain_of k
-    unfolding plain_of
-    plain_statement l q = rw (← e, h, lt-ltb k 16 l, q)
-
-    module _ (l16 : 16 ≤ k) where
-      pub plain_gap : k < 32 → kind.Other ≡ plain_of k
-      unfolding plain_of
-      plain_gap l = rw (← e, h, le-ltb k 16 l16, lt-ltb k 32 l)
-
-      module _ (l32 : 32 ≤ k) where
-        pub plain_expr : k < 78 → {x : ExprKind} → x ≡ get_or expr_kinds (k - 32) expr.Call → kind.Expr x ≡ plain_of k
-        unfolding plain_of
-        plain_expr l q = rw (← e, h, le-ltb k 16 l16, le-ltb k 32 l32, lt-ltb k 78 l, q)
-
-        pub plain_other : 78 ≤ k → when 96 k kind.Absent (when 100 k kind.Case (when 101 k kind.Default kind.Other)) ≡ plain_of k
-        unfolding plain_of
-        plain_other l = rw (← e, h, le-ltb k 16 l16, le-ltb k 32 l32, le-ltb k 78 l)
-
-pub other_rest : (k : ℕ) → ((Unit {0} × (k ≡ 96 → ⊥)) × (k ≡ 100 → ⊥)) × (k ≡ 101 → ⊥) → kind.Other ≡ when 96 k kind.Absent (when 100 k kind.Case (when 101 k kind.Default kind.Other))
-other_rest k r = rw (ne_eqb k 96 r.0.0.1, ne_eqb k 100 r.0.1, ne_eqb k 101 r.1)
-
-pub record_rest : (w : Words) → ((((((((((((Unit {0} × (w.kind ≡ 0 → ⊥)) × (w.kind ≡ 5 → ⊥)) × (w.kind ≡ 32 → ⊥)) × (w.kind ≡ 40 → ⊥)) × (w.kind ≡ 41 → ⊥))
-    × (w.kind ≡ 49 → ⊥)) × (w.kind ≡ 52 → ⊥)) × (w.kind ≡ 69 → ⊥)) × (w.kind ≡ 75 → ⊥)) × (w.kind ≡ 76 → ⊥)) × (w.kind ≡ 97 → ⊥)) × (w.kind ≡ 98 → ⊥)) × (w.kind ≡ 99 → ⊥) → plain_of w.kind ≡ record_of w
+-- a record whose words' kind is none of those with words of their own
+record_plain : (w : Words) → (w.kind ≡ 0 → ⊥) → (w.kind ≡ 5 → ⊥) → (w.kind ≡ 32 → ⊥) → (w.kind ≡ 40 → ⊥) → (w.kind ≡ 41 → ⊥) → (w.kind ≡ 49 → ⊥) → (w.kind ≡ 52 → ⊥)
+    → (w.kind ≡ 69 → ⊥) → (w.kind ≡ 75 → ⊥) → (w.kind ≡ 76 → ⊥) → (w.kind ≡ 97 → ⊥) → (w.kind ≡ 98 → ⊥) → (w.kind ≡ 99 → ⊥) → plain_of w.kind ≡ record_of w
 unfolding record_of
-record_rest w r =
+record_plain w a b c d e f g h i j k l m =
     rw (
-      ne_eqb w.kind 0 r.0.0.0.0.0.0.0.0.0.0.0.0.1,
-      ne_eqb w.kind 5 r.0.0.0.0.0.0.0.0.0.0.0.1,
-      ne_eqb w.kind 32 r.0.0.0.0.0.0.0.0.0.0.1,
-      ne_eqb w.kind 40 r.0.0.0.0.0.0.0.0.0.1,
-      ne_eqb w.kind 41 r.0.0.0.0.0.0.0.0.1,
-      ne_eqb w.kind 49 r.0.0.0.0.0.0.0.1,
-      ne_eqb w.kind 52 r.0.0.0.0.0.0.1,
-      ne_eqb w.kind 69 r.0.0.0.0.0.1,
-      ne_eqb w.kind 75 r.0.0.0.0.1,
-      ne_eqb w.kind 76 r.0.0.0.1,
-      ne_eqb w.kind 97 r.0.0.1,
-      ne_eqb w.kind 98 r.0.1,
-      ne_eqb w.kind 99 r.1,
+      ne_eqb w.kind 0 a,
+      ne_eqb w.kind 5 b,
+      ne_eqb w.kind 32 c,
+      ne_eqb w.kind 40 d,
+      ne_eqb w.kind 41 e,
+      ne_eqb w.kind 49 f,
+      ne_eqb w.kind 52 g,
+      ne_eqb w.kind 69 h,
+      ne_eqb w.kind 75 i,
+      ne_eqb w.kind 76 j,
+      ne_eqb w.kind 97 k,
+      ne_eqb w.kind 98 l,
+      ne_eqb w.kind 99 m,
     )
 
-module _ (w : Words) where
-  pub record_loop : w.kind ≡ 5 → {x : ForCondition} → x ≡ condition_of w → kind.Statement (statement.ForIn x) ≡ record_of w
-  unfolding record_of
-  record_loop h q = rw (ne_eqb w.kind 0 (λ e. omega arith), eq-eqb w.kind 5 h, q)
+-- the kinds with words of their own are up to 5, from 32 to 76 and from 97 to 99
+none_of_them : (w : Words) → 5 < w.kind → (w.kind < 32) ⊎ (76 < w.kind) → (w.kind < 97) ⊎ (99 < w.kind) → plain_of w.kind ≡ record_of w
+none_of_them w a b c =
+    record_plain w (λ e. omega arith) (λ e. omega arith) (λ e. omega arith) (λ e. omega arith) (λ e. omega arith) (λ e. omega arith) (λ e. omega arith) (λ e. omega arith)
+    (λ e. omega arith) (λ e. omega arith) (λ e. omega arith) (λ e. omega arith) (λ e. omega arith)
 
-  pub record_constant : w.kind ≡ 32 → {x : ConstantKind} → x ≡ constant_of w → kind.Expr (expr.Constant x) ≡ record_of w
-  unfolding record_of
-  record_constant h q = rw (ne_eqb w.kind 0 (λ e. omega arith), ne_eqb w.kind 5 (λ e. omega arith), eq-eqb w.kind 32 h, q)
+-- a record of no kind
+pub record_unknown : (w : Words) {e : UnknownKind} → kind_from w.kind ≡ Err e → kind.Other ≡ record_of w
+record_unknown w h = elim (unknown_from w.kind h) [
+  | inl low ↦ sym (plain_gap w.kind low.0 low.1) ∙ none_of_them w (omega arith) (inl low.1) (inl (omega arith))
+  | inr rest ↦ elim rest [
+    | inl high ↦ sym (plain_high w.kind high.0 (λ e. omega arith) (λ e. omega arith) (λ e. omega arith)) ∙ none_of_them w (omega arith) (inr (omega arith)) (inl (omega arith))
+    | inr past ↦ sym (plain_high w.kind (omega arith) (λ e. omega arith) (λ e. omega arith) (λ e. omega arith)) ∙ none_of_them w (omega arith) (inr (omega arith)) (inr (omega arith))
+  ]
+]
+
+-- a name by its number
+pub name_found : (a : ℕ) (o : Option ℕ) → SomeIff o (1 ≤ a) (a - 1) → o ≡ name_of a
+name_found zero None h = refl
+name_found (suc a) None h = absurd (h (omega arith))
+name_found zero (Some i) h = absurd (omega arith)
+name_found (suc a) (Some i) h = rw eqb-suc-zero (ap Some h.1)
+
+-- nine marks, each of which is its bit
+pub marks_listed : (c : ℕ) (ms : List Bool) → length ms ≡ 9 → ((k : ℕ) → k < 9 → get_or ms k false ≡ is_one (c / 2 ^ k % 2)) → ms ≡ marks_of c
+marks_listed c ms n h = fill_by_all (λ k. is_one (c / 2 ^ k % 2)) ms 9 false n h ∙ rw div-one

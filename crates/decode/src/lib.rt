@@ -3,6 +3,7 @@
 // A record's words as the enum of `hir`, and a function's record as a struct.
 ghost use Rattle.std.specs.Prelude.{◌≡◌, ◌<◌, get_or};
 ghost use Rattle.hir.specs.declared.BinaryOperator as binary;
+ghost use Rattle.script_records.specs.Kind.{number_of};
 ghost use Rattle.script_records.specs.Layout.{words_of, supported};
 ghost use Rattle.decode.specs.Decode.{signed, is_one, binary_operators, affix_of, unary_of, constant_of, condition_of, statement_kinds, expr_kinds, plain_of, record_of, name_of, function_of};
 
@@ -10,19 +11,17 @@ use hir::{
     Affix, BinaryOperator, ConstantKind, EnumeratorTarget, ExprKind, ForCondition, Record,
     SimpleKind, StatementKind, UnaryOperator,
 };
+use script_records::kind::Kind;
 use script_records::layout::Row;
 
 // A word in two's complement.
 pub fn to_signed(w: u32) -> i32
     ensures { result ≡ signed w }
 {
-    if w < 0x8000_0000 {
-        return w as i32;
-    }
-    -1 - ((0xffff_ffff - w) as i32)
+    w.cast_signed()
 }
 
-const BINARY_OPERATORS: [BinaryOperator; 43] = [
+static BINARY_OPERATORS: [BinaryOperator; 43] = [
     BinaryOperator::Add,
     BinaryOperator::Assign,
     BinaryOperator::AddAssign,
@@ -71,11 +70,10 @@ const BINARY_OPERATORS: [BinaryOperator; 43] = [
 fn binary_operator(a: u32) -> BinaryOperator
     ensures { result ≡ get_or binary_operators a BinaryOperator.Add }
 {
-    if a < 43 {
-        BINARY_OPERATORS[a as usize]
-    } else {
-        BinaryOperator::Add
-    }
+    BINARY_OPERATORS
+        .get(a as usize)
+        .copied()
+        .unwrap_or(BinaryOperator::Add)
 }
 
 fn affix(b: u32) -> Affix
@@ -88,6 +86,7 @@ fn affix(b: u32) -> Affix
     }
 }
 
+#[tactic(auto, unfolding(crate::specs::Decode::unary_of))]
 fn unary_operator(a: u32, b: u32) -> UnaryOperator
     ensures { result ≡ unary_of a b }
 {
@@ -101,6 +100,7 @@ fn unary_operator(a: u32, b: u32) -> UnaryOperator
     }
 }
 
+#[tactic(auto, unfolding(crate::specs::Decode::constant_of))]
 pub fn constant(r: Row) -> ConstantKind
     ensures { result ≡ constant_of (words_of r) }
 {
@@ -130,164 +130,97 @@ fn condition(r: Row) -> ForCondition
     ForCondition::Enumerate(EnumeratorTarget::Register((r.c % 256) as u8))
 }
 
-// StatementKind and ExprKind by their places, for those that their place says all of; any of them stands at the places of the others.
-const STATEMENT_KINDS: [StatementKind; 16] = [
-    StatementKind::Break,
-    StatementKind::Return,
-    StatementKind::Throw,
-    StatementKind::Expr,
-    StatementKind::Block,
-    StatementKind::Break,
-    StatementKind::While,
-    StatementKind::If,
-    StatementKind::Break,
-    StatementKind::Continue,
-    StatementKind::Break,
-    StatementKind::Break,
-    StatementKind::Break,
-    StatementKind::Break,
-    StatementKind::Break,
-    StatementKind::Switch,
-];
-
-const EXPR_KINDS: [ExprKind; 46] = [
-    ExprKind::Call,
-    ExprKind::Call,
-    ExprKind::New,
-    ExprKind::DuplicateMovieClip,
-    ExprKind::Simple(SimpleKind::AsciiToChar),
-    ExprKind::Simple(SimpleKind::MBAsciiToChar),
-    ExprKind::Simple(SimpleKind::CallFrame),
-    ExprKind::Simple(SimpleKind::GetTime),
-    ExprKind::Call,
-    ExprKind::Call,
-    ExprKind::Ternary,
-    ExprKind::InitObject,
-    ExprKind::InitArray,
-    ExprKind::Field,
-    ExprKind::Simple(SimpleKind::TypeOf),
-    ExprKind::Delete,
-    ExprKind::Void,
-    ExprKind::Call,
-    ExprKind::Simple(SimpleKind::GetVariable),
-    ExprKind::Simple(SimpleKind::SetVariable),
-    ExprKind::Call,
-    ExprKind::Call,
-    ExprKind::Simple(SimpleKind::CastToInteger),
-    ExprKind::Simple(SimpleKind::CastToNumber),
-    ExprKind::Simple(SimpleKind::CastToString),
-    ExprKind::Simple(SimpleKind::CastToObject),
-    ExprKind::Simple(SimpleKind::StringLength),
-    ExprKind::Simple(SimpleKind::MBStringLength),
-    ExprKind::Simple(SimpleKind::CharToAscii),
-    ExprKind::Simple(SimpleKind::MBCharToAscii),
-    ExprKind::Simple(SimpleKind::Substring),
-    ExprKind::Simple(SimpleKind::MBSubstring),
-    ExprKind::Simple(SimpleKind::NextFrame),
-    ExprKind::Simple(SimpleKind::PreviousFrame),
-    ExprKind::Simple(SimpleKind::Play),
-    ExprKind::Simple(SimpleKind::Stop),
-    ExprKind::Simple(SimpleKind::StopSounds),
-    ExprKind::Call,
-    ExprKind::Simple(SimpleKind::EndDrag),
-    ExprKind::Simple(SimpleKind::GetTargetPath),
-    ExprKind::Simple(SimpleKind::Trace),
-    ExprKind::Simple(SimpleKind::RemoveSprite),
-    ExprKind::Simple(SimpleKind::GetRandomNumber),
-    ExprKind::Call,
-    ExprKind::Call,
-    ExprKind::Simple(SimpleKind::ToggleQuality),
-];
-
-fn statement_in_table(place: usize) -> StatementKind
-    requires { place < 16 }
-    ensures { result ≡ get_or statement_kinds place StatementKind.Break }
-{
-    STATEMENT_KINDS[place]
-}
-
-fn expr_in_table(place: usize) -> ExprKind
-    requires { place < 46 }
-    ensures { result ≡ get_or expr_kinds place ExprKind.Call }
-{
-    EXPR_KINDS[place]
-}
-
-// A table is copied to the stack wherever it is read, so the usual kinds have arms of their own.
-fn statement_kind(place: usize) -> StatementKind
-    requires { place < 16 }
-    ensures { result ≡ get_or statement_kinds place StatementKind.Break }
-{
-    match place {
-        1 => StatementKind::Return,
-        3 => StatementKind::Expr,
-        4 => StatementKind::Block,
-        6 => StatementKind::While,
-        7 => StatementKind::If,
-        8 => StatementKind::Break,
-        9 => StatementKind::Continue,
-        15 => StatementKind::Switch,
-        _ => statement_in_table(place),
-    }
-}
-
-fn expr_kind(place: usize) -> ExprKind
-    requires { place < 46 }
-    ensures { result ≡ get_or expr_kinds place ExprKind.Call }
-{
-    match place {
-        1 => ExprKind::Call,
-        2 => ExprKind::New,
-        10 => ExprKind::Ternary,
-        11 => ExprKind::InitObject,
-        12 => ExprKind::InitArray,
-        13 => ExprKind::Field,
-        18 => ExprKind::Simple(SimpleKind::GetVariable),
-        19 => ExprKind::Simple(SimpleKind::SetVariable),
-        34 => ExprKind::Simple(SimpleKind::Play),
-        35 => ExprKind::Simple(SimpleKind::Stop),
-        40 => ExprKind::Simple(SimpleKind::Trace),
-        _ => expr_in_table(place),
-    }
-}
-
 // Not one of the kinds that refusal 3 names.
 pub fn is_supported(kind: u32) -> bool
     ensures { result ≡ supported kind }
 {
-    if kind == 53 {
-        return false;
-    }
-    if kind < 10 {
-        return true;
-    }
-    if kind <= 14 {
-        return false;
-    }
-    true
+    const TRY: u32 = Kind::Try as u32;
+    const WITH: u32 = Kind::With as u32;
+    const GET_URL: u32 = Kind::GetUrl as u32;
+    !matches!(kind, TRY..=WITH | GET_URL)
 }
 
-// A record whose kind says all of it.
-fn plain(kind: u32) -> Record
-    ensures { result ≡ plain_of kind }
+// A record of that kind.
+#[tactic(auto, unfolding(crate::specs::Decode::record_of, crate::specs::Decode::plain_of, crate::specs::Decode::statement_kinds, crate::specs::Decode::expr_kinds, crate::specs::Decode::condition_of, crate::specs::Decode::constant_of))]
+fn record_of_kind(kind: Kind, r: Row) -> Record
+    ensures { result ≡ record_of (record { kind = number_of kind; a = r.a; b = r.b; c = r.c }) }
 {
-    if !is_supported(kind) {
-        return Record::Other;
-    }
-    if kind < 16 {
-        return Record::Statement(statement_kind(kind as usize));
-    }
-    if kind < 32 {
-        return Record::Other;
-    }
-    if kind < 78 {
-        return Record::Expr(expr_kind((kind - 32) as usize));
-    }
     match kind {
-        96 => Record::Absent,
-        100 => Record::Case,
-        101 => Record::Default,
-        _ => Record::Other,
+        Kind::Declare => Record::Statement(StatementKind::Declare(r.a)),
+        Kind::Return => Record::Statement(StatementKind::Return),
+        Kind::Throw => Record::Statement(StatementKind::Throw),
+        Kind::Expr => Record::Statement(StatementKind::Expr),
+        Kind::Block => Record::Statement(StatementKind::Block),
+        Kind::ForIn => Record::Statement(StatementKind::ForIn(condition(r))),
+        Kind::While => Record::Statement(StatementKind::While),
+        Kind::If => Record::Statement(StatementKind::If),
+        Kind::Break => Record::Statement(StatementKind::Break),
+        Kind::Continue => Record::Statement(StatementKind::Continue),
+        Kind::Switch => Record::Statement(StatementKind::Switch),
+        Kind::Constant => Record::Expr(ExprKind::Constant(constant(r))),
+        Kind::Call => Record::Expr(ExprKind::Call),
+        Kind::New => Record::Expr(ExprKind::New),
+        Kind::DuplicateMovieClip => Record::Expr(ExprKind::DuplicateMovieClip),
+        Kind::AsciiToChar => Record::Expr(ExprKind::Simple(SimpleKind::AsciiToChar)),
+        Kind::MBAsciiToChar => Record::Expr(ExprKind::Simple(SimpleKind::MBAsciiToChar)),
+        Kind::CallFrame => Record::Expr(ExprKind::Simple(SimpleKind::CallFrame)),
+        Kind::GetTime => Record::Expr(ExprKind::Simple(SimpleKind::GetTime)),
+        Kind::Binary => Record::Expr(ExprKind::Binary(binary_operator(r.a))),
+        Kind::Unary => Record::Expr(ExprKind::Unary(unary_operator(r.a, r.b))),
+        Kind::Ternary => Record::Expr(ExprKind::Ternary),
+        Kind::InitObject => Record::Expr(ExprKind::InitObject),
+        Kind::InitArray => Record::Expr(ExprKind::InitArray),
+        Kind::Field => Record::Expr(ExprKind::Field),
+        Kind::TypeOf => Record::Expr(ExprKind::Simple(SimpleKind::TypeOf)),
+        Kind::Delete => Record::Expr(ExprKind::Delete),
+        Kind::Void => Record::Expr(ExprKind::Void),
+        Kind::Function => Record::Expr(ExprKind::Function {
+            name: r.a,
+            registers: (r.b % 256) as u8,
+            marks: (r.c % 512) as u16,
+        }),
+        Kind::GetVariable => Record::Expr(ExprKind::Simple(SimpleKind::GetVariable)),
+        Kind::SetVariable => Record::Expr(ExprKind::Simple(SimpleKind::SetVariable)),
+        Kind::GotoFrame => Record::Expr(ExprKind::GotoFrame(r.a != 0)),
+        Kind::CastToInteger => Record::Expr(ExprKind::Simple(SimpleKind::CastToInteger)),
+        Kind::CastToNumber => Record::Expr(ExprKind::Simple(SimpleKind::CastToNumber)),
+        Kind::CastToString => Record::Expr(ExprKind::Simple(SimpleKind::CastToString)),
+        Kind::CastToObject => Record::Expr(ExprKind::Simple(SimpleKind::CastToObject)),
+        Kind::StringLength => Record::Expr(ExprKind::Simple(SimpleKind::StringLength)),
+        Kind::MBStringLength => Record::Expr(ExprKind::Simple(SimpleKind::MBStringLength)),
+        Kind::CharToAscii => Record::Expr(ExprKind::Simple(SimpleKind::CharToAscii)),
+        Kind::MBCharToAscii => Record::Expr(ExprKind::Simple(SimpleKind::MBCharToAscii)),
+        Kind::Substring => Record::Expr(ExprKind::Simple(SimpleKind::Substring)),
+        Kind::MBSubstring => Record::Expr(ExprKind::Simple(SimpleKind::MBSubstring)),
+        Kind::NextFrame => Record::Expr(ExprKind::Simple(SimpleKind::NextFrame)),
+        Kind::PreviousFrame => Record::Expr(ExprKind::Simple(SimpleKind::PreviousFrame)),
+        Kind::Play => Record::Expr(ExprKind::Simple(SimpleKind::Play)),
+        Kind::Stop => Record::Expr(ExprKind::Simple(SimpleKind::Stop)),
+        Kind::StopSounds => Record::Expr(ExprKind::Simple(SimpleKind::StopSounds)),
+        Kind::StartDrag => Record::Expr(ExprKind::StartDrag(r.a != 0)),
+        Kind::EndDrag => Record::Expr(ExprKind::Simple(SimpleKind::EndDrag)),
+        Kind::GetTargetPath => Record::Expr(ExprKind::Simple(SimpleKind::GetTargetPath)),
+        Kind::Trace => Record::Expr(ExprKind::Simple(SimpleKind::Trace)),
+        Kind::RemoveSprite => Record::Expr(ExprKind::Simple(SimpleKind::RemoveSprite)),
+        Kind::GetRandomNumber => Record::Expr(ExprKind::Simple(SimpleKind::GetRandomNumber)),
+        Kind::GetProperty => Record::Expr(ExprKind::GetProperty(to_signed(r.a))),
+        Kind::SetProperty => Record::Expr(ExprKind::SetProperty(to_signed(r.a))),
+        Kind::ToggleQuality => Record::Expr(ExprKind::Simple(SimpleKind::ToggleQuality)),
+        Kind::Absent => Record::Absent,
+        Kind::List => Record::List(r.a),
+        Kind::ObjectField => Record::ObjectField(r.a),
+        Kind::Parameter => Record::Parameter {
+            name: r.a,
+            register: (r.b % 512) as u16,
+        },
+        Kind::Case => Record::Case,
+        Kind::Default => Record::Default,
+        Kind::Try
+        | Kind::WaitForFrame
+        | Kind::TellTarget
+        | Kind::InlinePcode
+        | Kind::With
+        | Kind::GetUrl => Record::Other,
     }
 }
 
@@ -295,29 +228,9 @@ fn plain(kind: u32) -> Record
 pub fn record_of(r: Row) -> Record
     ensures { result ≡ record_of (words_of r) }
 {
-    let kind = r.kind;
-    match kind {
-        0 => Record::Statement(StatementKind::Declare(r.a)),
-        5 => Record::Statement(StatementKind::ForIn(condition(r))),
-        32 => Record::Expr(ExprKind::Constant(constant(r))),
-        40 => Record::Expr(ExprKind::Binary(binary_operator(r.a))),
-        41 => Record::Expr(ExprKind::Unary(unary_operator(r.a, r.b))),
-        49 => Record::Expr(ExprKind::Function {
-            name: r.a,
-            registers: (r.b % 256) as u8,
-            marks: (r.c % 512) as u16,
-        }),
-        52 => Record::Expr(ExprKind::GotoFrame(r.a != 0)),
-        69 => Record::Expr(ExprKind::StartDrag(r.a != 0)),
-        75 => Record::Expr(ExprKind::GetProperty(to_signed(r.a))),
-        76 => Record::Expr(ExprKind::SetProperty(to_signed(r.a))),
-        97 => Record::List(r.a),
-        98 => Record::ObjectField(r.a),
-        99 => Record::Parameter {
-            name: r.a,
-            register: (r.b % 512) as u16,
-        },
-        _ => plain(kind),
+    match Kind::try_from(r.kind) {
+        Ok(kind) => record_of_kind(kind, r),
+        Err(_) => Record::Other,
     }
 }
 
@@ -330,31 +243,16 @@ pub struct Function {
     pub marks: [bool; 9],
 }
 
-fn name_of(a: u32) -> Option<u32>
-    ensures { result ≡ name_of a }
-{
-    a.checked_sub(1)
-}
-
 // The record of a function, whose words hold its name, its register count and its marks.
 pub fn function_of(r: Row) -> Function
     ensures { result ≡ function_of (words_of r) }
 {
-    let c = r.c;
-    let name = name_of(r.a);
-    let marks = [
-        c % 2 != 0,
-        c / 2 % 2 != 0,
-        c / 4 % 2 != 0,
-        c / 8 % 2 != 0,
-        c / 16 % 2 != 0,
-        c / 32 % 2 != 0,
-        c / 64 % 2 != 0,
-        c / 128 % 2 != 0,
-        c / 256 % 2 != 0,
-    ];
+    let mut marks = [false; 9];
+    for (i, mark) in marks.iter_mut().enumerate() {
+        *mark = r.c >> i & 1 != 0;
+    }
     Function {
-        name,
+        name: r.a.checked_sub(1),
         register_count: (r.b % 256) as u8,
         marks,
     }

@@ -23,7 +23,7 @@ use Rattle.lowering.specs.Builder.{◌>>◌, push}
 use Rattle.lowering.specs.Meaning.{Meaning, width}
 use Rattle.lowering.specs.Statement.{meanings, expr, exprs_reversed, expr_of, gen_expr, gen_arguments}
 use Rattle.lowering.proofs.Laws.{width_law}
-use Rattle.codegen_state.specs.declared.CodeBuilder.{CodeBuilder}
+use Rattle.codegen_state.specs.declared.BuilderState.{BuilderState}
 use Rattle.codegen_state.specs.View.{Held, held, after}
 use Rattle.codegen_state.specs.Does.{Fine, Does}
 use Rattle.codegen_state.proofs.Steps.{after_then, after_done, stays}
@@ -49,10 +49,10 @@ module _ {F : List ℕ} {l : Layout} {p : Part} {t : Node Part} (n : IsNode F l 
 pub some_left : {n : ℕ} → false ≡ eqb n 0 → n ≡ 0 → ⊥
 some_left {n} h = eqb-false n 0 (sym h)
 
-pub args_holds : (F : List ℕ) (l : Layout) (w : List ℕ) (p : Part) (b : CodeBuilder) → Within F l p → Fine b w → Args F l w p b w p b
+pub args_holds : (F : List ℕ) (l : Layout) (w : List ℕ) (p : Part) (b : BuilderState) → Within F l p → Fine b w → Args F l w p b w p b
 args_holds F l w p b i f = record { same = refl; fine = f; named = λ n. n; within = i; fewer = omega arith; list = refl }
 
-pub args_then : {F : List ℕ} {l : Layout} {w0 : List ℕ} {p : Part} {b0 : CodeBuilder} {w1 : List ℕ} {middle : Part} {b1 : CodeBuilder} {w : List ℕ} {left : Part} {b : CodeBuilder} →
+pub args_then : {F : List ℕ} {l : Layout} {w0 : List ℕ} {p : Part} {b0 : BuilderState} {w1 : List ℕ} {middle : Part} {b1 : BuilderState} {w : List ℕ} {left : Part} {b : BuilderState} →
     Args F l w0 p b0 w1 middle b1 → Args F l w1 middle b1 w left b → Args F l w0 p b0 w left b
 args_then i j = record {
   same = j.same ∙ i.same;
@@ -67,8 +67,8 @@ pub reversed_more : (F : List ℕ) (l : Layout) (p : Part) {t : Node Part} → I
 unfolding meanings
 reversed_more F l p i h = rw (trees_more F l p i h)
 
-module _ {F : List ℕ} {l : Layout} {w0 : List ℕ} {p : Part} {b0 : CodeBuilder} {w : List ℕ} {left : Part} {b : CodeBuilder} (i : Args F l w0 p b0 w left b) where
-  args_again_at : (left.n ≡ 0 → ⊥) → {t : Node Part} → t ≡ node_of F l left → {b1 : CodeBuilder} {w1 : List ℕ} → Does F ((kid_at F left 0).gen_expr false) b w tt b1 w1 → length w1 ≡ length w →
+module _ {F : List ℕ} {l : Layout} {w0 : List ℕ} {p : Part} {b0 : BuilderState} {w : List ℕ} {left : Part} {b : BuilderState} (i : Args F l w0 p b0 w left b) where
+  args_again_at : (left.n ≡ 0 → ⊥) → {t : Node Part} → t ≡ node_of F l left → {b1 : BuilderState} {w1 : List ℕ} → Does F ((kid_at F left 0).gen_expr false) b w tt b1 w1 → length w1 ≡ length w →
       Args F l w0 p b0 w1 t.before b1
   args_again_at z {t} e {b1} {w1} o q =
       let g = is_node F l left i.within e in
@@ -81,7 +81,7 @@ module _ {F : List ℕ} {l : Layout} {w0 : List ℕ} {p : Part} {b0 : CodeBuilde
         list = q ∙ i.list;
       }
 
-  pub args_again : (left.n ≡ 0 → ⊥) → {before : Part} → before ≡ (node_of F l left).before → {b1 : CodeBuilder} {w1 : List ℕ} → Does F ((kid_at F left 0).gen_expr false) b w tt b1 w1 → length w1 ≡ length w →
+  pub args_again : (left.n ≡ 0 → ⊥) → {before : Part} → before ≡ (node_of F l left).before → {b1 : BuilderState} {w1 : List ℕ} → Does F ((kid_at F left 0).gen_expr false) b w tt b1 w1 → length w1 ≡ length w →
       Args F l w0 p b0 w1 before b1
   args_again z e o q = rw e (args_again_at z {t = node_of F l left} refl o q)
 
@@ -96,7 +96,7 @@ module _ {F : List ℕ} {l : Layout} {w0 : List ℕ} {p : Part} {b0 : CodeBuilde
     named = i.named;
   }
 
-  pub args_done : left.n ≡ 0 → (n : ℕ) → n ≡ width (trees F p) → {r : CodeBuilder} {w' : List ℕ} → Does F (push (Integer n)) b w tt r w' → Does F (gen_arguments (meanings_at F p)) b0 w0 tt r w'
+  pub args_done : left.n ≡ 0 → (n : ℕ) → n ≡ width (trees F p) → {r : BuilderState} {w' : List ℕ} → Does F (push (Integer n)) b w tt r w' → Does F (gen_arguments (meanings_at F p)) b0 w0 tt r w'
   unfolding meanings
   args_done z n e {r} {w'} o = record {
     same = rw (width_law (trees F p), ← e, after_then, ← i.same, trees_none F left z, after_done (held F (tt {0}) b w), o.same);
@@ -113,7 +113,7 @@ module _ {F : List ℕ} {l : Layout} {w0 : List ℕ} {p : Part} {b0 : CodeBuilde
     pub args_named : T (constant_named F c)
     args_named = rw root_is at (is_node F l left i.within refl).named
 
-    pub args_constant : {b1 : CodeBuilder} {w1 : List ℕ} → Reads F c b w b1 w1 → length w1 ≡ length w → Args F l w0 p b0 w1 t.before b1
+    pub args_constant : {b1 : BuilderState} {w1 : List ℕ} → Reads F c b w b1 w1 → length w1 ≡ length w → Args F l w0 p b0 w1 t.before b1
     args_constant o k = args_again z (rest_made F l left z e) (rw (expr_at (is_node F l left i.within refl) false root_is) o) k
 
 -- a Void, of kind 48, generates nothing
@@ -138,7 +138,7 @@ module _ (F : List ℕ) (l : Layout) (left : Part) (k : kind_at F l left ≡ 48)
 pub unchanged : (F : List ℕ) (l : Layout) (p : Part) → Within F l p → Unchanged F l p p
 unchanged F l p w = record { same = λ v. refl; within = w; fewer = omega arith }
 
-module _ {F : List ℕ} {l : Layout} {w0 : List ℕ} {p : Part} {b0 : CodeBuilder} {w : List ℕ} {left : Part} {b : CodeBuilder} where
+module _ {F : List ℕ} {l : Layout} {w0 : List ℕ} {p : Part} {b0 : BuilderState} {w : List ℕ} {left : Part} {b : BuilderState} where
   pub args_without : {next : Part} → Args F l w0 p b0 w left b → Unchanged F l left next → Args F l w0 p b0 w next b
   args_without i u = record { same = u.same _ ∙ i.same; fine = i.fine; named = i.named; within = u.within; fewer = omega (arith, i.fewer, u.fewer); list = i.list }
 

@@ -15,26 +15,26 @@ use Rattle.script.specs.Resolve.{constant_over}
 use Rattle.lowering.specs.Builder.{Step, ◌>>=◌, push, push_string}
 use Rattle.lowering.specs.Access.{Access, Direct, ◌gives◌, boolean, for_identifier, for_constant, get_value}
 use Rattle.list_slice.specs.File.{text_in, names_string}
-use Rattle.codegen_state.specs.declared.CodeBuilder.{CodeBuilder}
+use Rattle.codegen_state.specs.declared.BuilderState.{BuilderState}
 use Rattle.codegen_state.specs.Does.{Fine, Does}
 use Rattle.codegen_state.proofs.Steps.{idle, returned}
 use Rattle.tree.specs.Within.{constant_named}
 use Rattle.access.proofs.Chains.{bound, leaves}
 use Rattle.access.proofs.Texts.{text_is}
 
-abbrev pub Reads : List ℕ → ConstantKind → CodeBuilder → List ℕ → CodeBuilder → List ℕ → Type 0
+abbrev pub Reads : List ℕ → ConstantKind → BuilderState → List ℕ → BuilderState → List ℕ → Type 0
 Reads F c b w r w' = Does F (for_constant (constant_over (string_at F (layout_of F)) c) >>= get_value) b w tt r w'
 
-module _ (F : List ℕ) {b r : CodeBuilder} {w w' : List ℕ} where
+module _ (F : List ℕ) {b r : BuilderState} {w w' : List ℕ} where
   -- a value that is pushed is direct: nothing more is done to read it
   direct : (m : Step) → Does F m b w tt r w' → Does F ((m gives Direct) >>= get_value) b w tt r w'
   direct m d = bound (m gives Direct) get_value (leaves m Direct d) (idle d.fine)
 
-module _ (F : List ℕ) {b r : CodeBuilder} {w w' : List ℕ} {c : ConstantKind} where
+module _ (F : List ℕ) {b r : BuilderState} {w w' : List ℕ} {c : ConstantKind} where
   pub string : {s : ℕ} → c ≡ constant.String s → length F ≤ 1048576 → T (constant_named F c) → (T (names_string F s) → Does F (push_string (text_in F s)) b w tt r w') → Reads F c b w r w'
   string {s} e h t d = rw (e, ← text_is F s h) (direct F (push_string (text_in F s)) (d (rw e at t)))
 
-  pub identifier : {s : ℕ} {a : Access} {b1 : CodeBuilder} {w1 : List ℕ} → c ≡ constant.Identifier s → length F ≤ 1048576 → T (constant_named F c) →
+  pub identifier : {s : ℕ} {a : Access} {b1 : BuilderState} {w1 : List ℕ} → c ≡ constant.Identifier s → length F ≤ 1048576 → T (constant_named F c) →
       (T (names_string F s) → Does F (for_identifier (text_in F s)) b w a b1 w1) → Does F (get_value a) b1 w1 tt r w' → Reads F c b w r w'
   identifier {s} e h t d k = rw (e, ← text_is F s h) (bound (for_identifier (text_in F s)) get_value (d (rw e at t)) k)
 

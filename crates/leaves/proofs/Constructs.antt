@@ -14,12 +14,12 @@ use Rattle.lowering.specs.Builder.{◌>>◌, action, push, push_string}
 use Rattle.lowering.specs.Access.{Access, for_identifier, set_value, store_register}
 use Rattle.lowering.specs.Statement.{gen_target}
 use Rattle.list_slice.specs.File.{text_in}
-use Rattle.codegen_state.specs.declared.CodeBuilder.{CodeBuilder}
+use Rattle.codegen_state.specs.declared.BuilderState.{BuilderState}
 use Rattle.codegen_state.specs.Does.{Does}
 use Rattle.access.proofs.Chains.{row, bound}
 use Rattle.access.proofs.Texts.{text_is}
 
-module _ (F : List ℕ) {b b1 b2 r : CodeBuilder} {w w1 w2 w' : List ℕ} {t : EnumeratorTarget} where
+module _ (F : List ℕ) {b b1 b2 r : BuilderState} {w w1 w2 w' : List ℕ} {t : EnumeratorTarget} where
   pub declared : {s : ℕ} {d : Bool} → t ≡ target.Variable s d → d ≡ true → length F ≤ 1048576 → Does F (push_string (text_in F s)) b w tt b1 w1 →
       Does F (push (Value.Register 0)) b1 w1 tt b2 w2 → Does F (action DefineLocal) b2 w2 tt r w' → Does F (gen_target (target_over (string_at F (layout_of F)) t)) b w tt r w'
   declared {s = s} e q h x y z =

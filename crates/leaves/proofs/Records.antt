@@ -1,7 +1,7 @@
 -- What a parent looks at in a child's record.
-use Prim.Native.Nat.{ℕ, zero, suc, ◌+◌, ◌-◌, ◌≤◌, ◌<◌}
+use Prim.Native.Nat.{ℕ, zero, suc, ◌-◌, ◌≤◌, ◌<◌}
 use mathlib.Core.Path.{◌≡◌, refl, sym, ◌∙◌}
-use mathlib.Core.Bool.{Bool, true, false, cond, not, ◌&&◌, ◌||◌, and-false, false≢true}
+use mathlib.Core.Bool.{Bool, true, false, not, ◌&&◌, ◌||◌, and-false, false≢true}
 use mathlib.Core.List.{List, [], ◌∷◌}
 use native.Mathlib.Omega.{arith}
 use lib.Dec.{T, ltb, eqb}
@@ -15,14 +15,12 @@ use Rattle.hir.specs.declared.Record.{Record}
 use Rattle.hir.specs.declared.Record.TheVariants as kind
 use Rattle.hir.specs.declared.StatementKind.{StatementKind}
 use Rattle.hir.specs.declared.StatementKind.TheVariants as statement
-use Rattle.pcode.specs.Pcode.{moved}
 use Rattle.script_records.specs.declared.layout.Layout.{Layout}
 use Rattle.script_records.specs.declared.part.Part.{Part}
-use Rattle.script_records.specs.Layout.{Words, words_of, supported, rows_of, row_in, layout_of, string_at}
+use Rattle.script_records.specs.Layout.{Words, words_of, supported, rows_of, row_in}
 use Rattle.script_records.specs.Parts.{last_tree}
 use Rattle.decode.specs.Decode.{statement_kinds, expr_kinds, plain_of, record_of}
 use Rattle.script.specs.Resolve.{resolved}
-use Rattle.lowering.specs.Builder.{name_delta}
 use Rattle.lowering.specs.Meaning.{Meaning, Shape, param, hoisted, is_named, shape_of, kid}
 use Rattle.lowering.specs.Statement.{meanings}
 use Rattle.list_slice.specs.File.{text_in, names_string}
@@ -260,26 +258,3 @@ module _ (F : List ℕ) (l : Layout) (p : Part) (w : Within F l p) where
       by false x =
           let k : kind_at F l (below F l p w) ≡ 49 → ⊥ = λ q. h (sym (child_kind F l p w (eqb-false _ 0 x)) ∙ q) in
           sym (unnamed_child (kid_at F p 0).rec (list_at F p 0) (rw (list_zero F l p (is_node F l p w refl), kid_zero F l (below F l p w) kids_of_lem) (unnamed_root F l (below F l p w) k)))
-
--- a function without a name leaves its value
-
-abbrev pub Left : List ℕ → (name r : ℕ) → Type 0
-Left F name r = (r ≤ 1) × ((z : ℕ) → moved (name_delta (cond (eqb name 0) [] (string_at F (layout_of F) (name - 1)))) z ≡ z + r)
-
-pub no_name : (F : List ℕ) (name : ℕ) → name ≡ 0 → Left F name 1
-no_name F name e = (omega arith, λ z. rw e)
-
-module _ (F : List ℕ) (name : ℕ) (h : name ≡ 0 → ⊥) {s : List ℕ} (e : s ≡ string_at F (layout_of F) (name - 1)) where
-  pub empty_name : length s ≡ 0 → Left F name 1
-  empty_name q = (omega arith, λ z. rw (ne_eqb name 0 h, ← e) (by s q z))
-    where
-      by : (s : List ℕ) → length s ≡ 0 → (z : ℕ) → moved (name_delta s) z ≡ z + 1
-      by [] q z = refl
-      by (c ∷ s) q z = absurd (omega arith)
-
-  pub full_name : (length s ≡ 0 → ⊥) → Left F name 0
-  full_name q = (omega arith, λ z. rw (ne_eqb name 0 h, ← e) (by s q z))
-    where
-      by : (s : List ℕ) → (length s ≡ 0 → ⊥) → (z : ℕ) → moved (name_delta s) z ≡ z + 0
-      by [] q z = absurd (q refl)
-      by (c ∷ s) q z = refl

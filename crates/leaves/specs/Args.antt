@@ -3,13 +3,13 @@ use Rattle.std.specs.Prelude.{ℕ, ◌≤◌, ◌≡◌, List, length}
 use Rattle.script_records.specs.declared.layout.Layout.{Layout}
 use Rattle.script_records.specs.declared.part.Part.{Part}
 use Rattle.lowering.specs.Statement.{exprs_reversed}
-use Rattle.codegen_state.specs.declared.CodeBuilder.{CodeBuilder}
+use Rattle.codegen_state.specs.declared.BuilderState.{BuilderState}
 use Rattle.codegen_state.specs.View.{Held, held, after}
 use Rattle.codegen_state.specs.Does.{Fine, Named}
 use Rattle.tree.specs.Within.{Within, meanings_at}
 
 -- of the arguments of p, those in `left` are still to be generated
-pub record Args (F : List ℕ) (l : Layout) (w0 : List ℕ) (p : Part) (b0 : CodeBuilder) (w : List ℕ) (left : Part) (b : CodeBuilder) : Type 0 where
+pub record Args (F : List ℕ) (l : Layout) (w0 : List ℕ) (p : Part) (b0 : BuilderState) (w : List ℕ) (left : Part) (b : BuilderState) : Type 0 where
   pub same : after (held F (tt {0}) b w) (exprs_reversed (meanings_at F left)) ≡ after (held F (tt {0}) b0 w0) (exprs_reversed (meanings_at F p))
   pub fine : Fine b w
   pub named : Named F b0 w0 → Named F b w

@@ -123,7 +123,7 @@ resolve_start w starts places before from end h l = record {
   at = λ F ss f s k. (at_start s, rw (walked_none F w end), record { long = refl; at = λ e b l p q z. absurd (omega arith); others = λ e x. refl });
 }
 
-module _ {w starts places before : List ℕ} {from end i p : ℕ} {near : Bool} {offsets : List ℕ} (v : ResolveInv w starts places before from end i p near offsets) (z : i ≡ from → ⊥) (cap : end ≤ 4096)
+module _ {w starts places before : List ℕ} {from end i p : ℕ} {near : Bool} {offsets : List ℕ} (v : ResolveInv w starts places before from end i p near offsets) (z : from < i) (cap : end ≤ 4096)
   where
     abbrev j : ℕ
     j = i - 1

@@ -1,4 +1,4 @@
-pub mod Tables
+pub mod FormLaws
 pub mod RecordLaws
 pub mod RuleLaws
 pub mod WrittenRows

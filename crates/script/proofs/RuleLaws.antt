@@ -1,13 +1,13 @@
 -- The rules of the whole file: what each step of the walks over records and strings gives.
 use Prim.Native.Nat.{ℕ, zero, suc, ◌+◌, ◌-◌, ◌≤◌, ◌<◌, max}
 use mathlib.Core.Path.{◌≡◌, refl, sym, ap, ◌∙◌}
-use mathlib.Core.List.{List}
+use mathlib.Core.List.{List, [], ◌∷◌, ◌++◌, reverse}
 use mathlib.Core.Bool.{Bool, true, false, ◌&&◌, and-false}
 use lib.Dec.{ltb}
-use lib.ListN.{length, get_or, set, replicate, length-set}
-use lib.Seq.{get_or-set_same, get_or-set_other}
+use lib.ListN.{length, length-append}
+use Rattle.std.proofs.lemmas.List.{reverse-append, length-reverse}
 use native.Mathlib.Nat.{add-suc}
-use native.Mathlib.Numerals.{add-one, sub-one}
+use native.Mathlib.Numerals.{add-one}
 use native.Mathlib.Omega.{arith}
 use borrow.Author.Tests.{ltb-true, ltb-false, eq-eqb, ne_eqb, lt-ltb, le-ltb, le-leb}
 use Rattle.hir.specs.Tree.{depth}
@@ -93,44 +93,22 @@ module _ (F : List ℕ) (l : Layout) where
   unfolding all_utf8 strings_from
   strings_done i n h = let e : n - i ≡ 0 = omega arith in rw e
 
--- The depth of what is left of the records, from the last to the first: each open ancestor, the innermost last in `starts`, has the records
+-- The depth of what is left of the records, from the last to the first: each open ancestor, the innermost first, has the records
 -- from its start on still before it.
-unfoldable pub deepest : List Row → List ℕ → ℕ → ℕ → ℕ
-deepest rs starts zero i = 0
-deepest rs starts (suc k) i = max (k + depth (forest rs i (i - get_or starts k 0))) (deepest rs starts k (get_or starts k 0))
+unfoldable pub deepest : List Row → List ℕ → ℕ → ℕ
+deepest rs [] i = 0
+deepest rs (s ∷ ss) i = max (length ss + depth (forest rs i (i - s))) (deepest rs ss s)
 
 -- no ancestor starts after an inner one
-unfoldable pub Ordered : List ℕ → ℕ → ℕ → Type 0
-Ordered starts zero i = Unit
-Ordered starts (suc k) i = (get_or starts k 0 ≤ i) × Ordered starts k (get_or starts k 0)
+unfoldable pub Ordered : List ℕ → ℕ → Type 0
+Ordered [] i = Unit
+Ordered (s ∷ ss) i = (s ≤ i) × Ordered ss s
 
-deepest_set : (rs : List Row) (starts : List ℕ) (j v : ℕ) (k i : ℕ) → k ≤ j → deepest rs (set starts j v) k i ≡ deepest rs starts k i
-unfolding deepest
-deepest_set rs starts j v zero i h = refl
-deepest_set rs starts j v (suc k) i h = rw (get_or-set_other starts j k v 0 (λ e. omega arith), deepest_set rs starts j v k (get_or starts k 0) (omega arith))
-
-ordered_set : (starts : List ℕ) (j v : ℕ) (k i : ℕ) → k ≤ j → Ordered starts k i → Ordered (set starts j v) k i
-unfolding Ordered
-ordered_set starts j v zero i h o = o
-ordered_set starts j v (suc k) i h o = rw (get_or-set_other starts j k v 0 (λ e. omega arith)) (o.0, ordered_set starts j v k (get_or starts k 0) (omega arith) o.1)
-
--- at the first record nothing is left
-deepest_end : (rs : List Row) (starts : List ℕ) (k : ℕ) → Ordered starts k 0 → deepest rs starts k 0 ≤ k - 1
-unfolding deepest Ordered depth
-deepest_end rs starts zero o = omega arith
-deepest_end rs starts (suc k) o =
-    let z : get_or starts k 0 ≡ 0 = omega (arith, o.0) in
-    let r : deepest rs starts k 0 ≤ k - 1 = deepest_end rs starts k (rw z at o.1) in
-    rw (z, forest_none) (omega arith)
-
--- what the walk knows: the file's depth is d
-pub record Deep (rs : List Row) (d : ℕ) (starts : List ℕ) (ancestors i : ℕ) : Type 0 where
-  pub long : length starts ≡ 129
-  pub some_open : 0 < ancestors
-  pub few_open : ancestors ≤ 129
-  pub base : get_or starts 0 0 ≡ 0
-  pub ordered : Ordered starts ancestors i
-  pub same : ltb 128 d ≡ ltb 128 (deepest rs starts ancestors i)
+-- what the walk knows of the starts of the open ancestors, the innermost last: the file's depth is d
+pub record Deep (rs : List Row) (d : ℕ) (starts : List ℕ) (i : ℕ) : Type 0 where
+  pub few : length starts ≤ 129
+  pub ordered : Ordered (reverse starts) i
+  pub same : ltb 128 d ≡ ltb 128 (deepest rs (reverse starts) i)
 
 only : (x : ℕ) → max (0 + x) 0 ≡ x
 only x = omega arith
@@ -138,22 +116,15 @@ only x = omega arith
 less_none : (n : ℕ) → n - 0 ≡ n
 less_none n = omega arith
 
-pub deep_start : (rs : List Row) (n : ℕ) → Deep rs (depth (forest rs n n)) (replicate 129 0) 1 n
+pub deep_start : (rs : List Row) (n : ℕ) → Deep rs (depth (forest rs n n)) (0 ∷ []) n
 unfolding Ordered deepest
-deep_start rs n =
-    record {
-      long = refl;
-      some_open = omega arith;
-      few_open = omega arith;
-      base = refl;
-      ordered = (omega arith, tt);
-      same = rw (only (depth (forest rs n (n - 0))), less_none n);
-    }
+deep_start rs n = record { few = omega arith; ordered = (omega arith, tt); same = rw (only (depth (forest rs n (n - 0))), less_none n) }
 
-pub deep_below : (rs : List Row) (d : ℕ) (starts : List ℕ) (ancestors i : ℕ) → Deep rs d starts ancestors i → get_or starts (ancestors - 1) 0 ≤ i
-unfolding Ordered
-deep_below rs d starts zero i f = absurd (omega (arith, f.some_open))
-deep_below rs d starts (suc k) i f = rw (sub-one) f.ordered.0
+-- no ancestor is open
+pub deep_end : (rs : List Row) (d : ℕ) (starts : List ℕ) (i : ℕ) → Deep rs d starts i → length starts ≡ 0 → false ≡ ltb 128 d
+unfolding deepest
+deep_end rs d [] i f h = sym f.same
+deep_end rs d (s ∷ ss) i f h = absurd (omega arith)
 
 over_max : (k x : ℕ) → k ≤ 128 → ltb 128 (max k x) ≡ ltb 128 x
 over_max k x h = by_test (ltb 128 x) refl
@@ -161,27 +132,6 @@ over_max k x h = by_test (ltb 128 x) refl
     by_test : (b : Bool) → ltb 128 x ≡ b → ltb 128 (max k x) ≡ ltb 128 x
     by_test true e = let l : 128 < x = ltb-true 128 x e in rw e (lt-ltb 128 (max k x) (omega arith))
     by_test false e = let l : x ≤ 128 = ltb-false 128 x e in rw e (le-ltb 128 (max k x) (omega arith))
-
-deepest_pop : (rs : List Row) (starts : List ℕ) (k i : ℕ) → k ≤ 128 → get_or starts k 0 ≡ i → ltb 128 (deepest rs starts (suc k) i) ≡ ltb 128 (deepest rs starts k i)
-unfolding deepest depth
-deepest_pop rs starts k i h e =
-    let z : i - i ≡ 0 = omega arith in
-    let y : k + 0 ≡ k = omega arith in
-    rw (e, z, forest_none, y) (over_max k (deepest rs starts k i) h)
-
--- an open ancestor has no more records
-pub deep_pop : (rs : List Row) (d : ℕ) (starts : List ℕ) (ancestors i : ℕ) → Deep rs d starts ancestors i → (i ≡ 0 → ⊥) → get_or starts (ancestors - 1) 0 ≡ i → Deep rs d starts (ancestors - 1) i
-unfolding Ordered
-deep_pop rs d starts zero i f h e = absurd (omega (arith, f.some_open))
-deep_pop rs d starts (suc zero) i f h e = absurd (h (sym e ∙ f.base))
-deep_pop rs d starts (suc (suc k)) i f h e = rw (sub-one) (record {
-  long = f.long;
-  some_open = omega arith;
-  few_open = omega (arith, f.few_open);
-  base = f.base;
-  ordered = rw (rw (sub-one) at e) at f.ordered.1;
-  same = f.same ∙ deepest_pop rs starts (suc k) i (omega (arith, f.few_open)) (rw (sub-one) at e);
-})
 
 over : (k a b x : ℕ) → 128 ≤ k → 128 < max (k + max a (suc b)) x
 over k a b x h = omega arith
@@ -195,78 +145,84 @@ outer i m s = omega arith
 deeper : (k a b x : ℕ) → max (k + max a (suc b)) x ≡ max (suc k + b) (max (k + a) x)
 deeper k a b x = omega arith
 
-module _ (rs : List Row) (starts : List ℕ) (k i : ℕ) (below : get_or starts k 0 ≤ i) (apart : get_or starts k 0 ≡ i → ⊥) where
-  abbrev left : ℕ
-  left = i - get_or starts k 0
-
-  left_some : 0 < left
-  left_some = omega arith
-
-  over_full : 128 ≤ k → ltb 128 (deepest rs starts (suc k) i) ≡ true
+-- the innermost ancestor starts at s, the others at ss
+module _ (rs : List Row) (s : ℕ) (ss : List ℕ) (i : ℕ) where
+  -- it has no more records
+  deepest_pop : length ss ≤ 128 → s ≡ i → ltb 128 (deepest rs (s ∷ ss) i) ≡ ltb 128 (deepest rs ss i)
   unfolding deepest depth
-  over_full h = rw (forest_more rs i left left_some) (lt-ltb 128 _ (over k _ _ _ h))
+  deepest_pop h e =
+      let z : i - i ≡ 0 = omega arith in
+      let y : length ss + 0 ≡ length ss = omega arith in
+      rw (e, z, forest_none, y) (over_max (length ss) (deepest rs ss i) h)
 
-  abbrev span : ℕ
-  span = span_at rs i left
+  module _ (below : s ≤ i) (apart : s ≡ i → ⊥) where
+    left_some : 0 < i - s
+    left_some = omega arith
 
-  module _ (room : suc k < length starts) where
-    abbrev pushed : List ℕ
-    pushed = set starts (suc k) (i - span)
+    over_full : 128 ≤ length ss → ltb 128 (deepest rs (s ∷ ss) i) ≡ true
+    unfolding deepest depth
+    over_full h = rw (forest_more rs i (i - s) left_some) (lt-ltb 128 _ (over (length ss) _ _ _ h))
 
-    deepest_push : deepest rs starts (suc k) i ≡ deepest rs pushed (suc (suc k)) (i - 1)
+    abbrev span : ℕ
+    span = span_at rs i (i - s)
+
+    deepest_push : deepest rs (s ∷ ss) i ≡ deepest rs ((i - span) ∷ s ∷ ss) (i - 1)
     unfolding deepest depth
     deepest_push =
-        let a = span_le rs i left in
-        let b = span_pos rs i left left_some in
-        let p : i - 1 - (i - span) ≡ span - 1 = inner i left span a b (omega arith) in
-        let q : i - span - get_or starts k 0 ≡ left - span = outer i (get_or starts k 0) span in
-        rw (
-          get_or-set_same starts (suc k) (i - span) 0 room,
-          get_or-set_other starts (suc k) k (i - span) 0 (λ e. omega arith),
-          deepest_set rs starts (suc k) (i - span) k (get_or starts k 0) (omega arith),
-          forest_more rs i left left_some,
-          p,
-          q,
-        )
-        (deeper k _ _ _)
+        let a = span_le rs i (i - s) in
+        let b = span_pos rs i (i - s) left_some in
+        let p : i - 1 - (i - span) ≡ span - 1 = inner i (i - s) span a b (omega arith) in
+        let q : i - span - s ≡ i - s - span = outer i s span in
+        rw (forest_more rs i (i - s) left_some, p, q) (deeper (length ss) _ _ _)
 
-    ordered_push : Ordered starts k (get_or starts k 0) → Ordered pushed (suc (suc k)) (i - 1)
+    ordered_push : Ordered ss s → Ordered ((i - span) ∷ s ∷ ss) (i - 1)
     unfolding Ordered
     ordered_push o =
-        let a = span_le rs i left in
-        let b = span_pos rs i left left_some in
-        rw (get_or-set_same starts (suc k) (i - span) 0 room, get_or-set_other starts (suc k) k (i - span) 0 (λ e. omega arith))
-        (omega arith, (omega arith, ordered_set starts (suc k) (i - span) k (get_or starts k 0) (omega arith) o))
+        let a = span_le rs i (i - s) in
+        let b = span_pos rs i (i - s) left_some in
+        (omega arith, (omega arith, o))
 
-module _ (rs : List Row) (d : ℕ) (starts : List ℕ) where
-  -- an ancestor too many
-  pub deep_full : (ancestors i : ℕ) → Deep rs d starts ancestors i → (get_or starts (ancestors - 1) 0 ≡ i → ⊥) → ancestors ≡ 129 → ltb 128 d ≡ true
+turned : {starts : List ℕ} (others : List ℕ) (s : ℕ) → starts ≡ others ++ s ∷ [] → reverse starts ≡ s ∷ reverse others
+turned others s e = ap reverse e ∙ reverse-append others (s ∷ [])
+
+turned_twice : (others : List ℕ) (s v : ℕ) → reverse ((others ++ s ∷ []) ++ v ∷ []) ≡ v ∷ s ∷ reverse others
+turned_twice others s v = reverse-append (others ++ s ∷ []) (v ∷ []) ∙ ap (λ (ss : List ℕ). v ∷ ss) (turned others s refl)
+
+-- the innermost ancestor, which starts at s, is taken from the others
+module _ (rs : List Row) (d : ℕ) {starts : List ℕ} (others : List ℕ) (s i : ℕ) (e : starts ≡ others ++ s ∷ []) (f : Deep rs d starts i) where
+  count : length others + 1 ≤ 129
+  count = let l : length starts ≡ length others + 1 = ap length e ∙ length-append others (s ∷ []) in omega (arith, f.few)
+
+  still_open : Ordered (s ∷ reverse others) i
+  still_open = rw (turned others s e) at f.ordered
+
+  same_open : ltb 128 d ≡ ltb 128 (deepest rs (s ∷ reverse others) i)
+  same_open = rw (turned others s e) at f.same
+
+  pub deep_below : s ≤ i
   unfolding Ordered
-  deep_full zero i f e h = absurd (omega arith)
-  deep_full (suc k) i f e h = f.same ∙ over_full rs starts k i f.ordered.0 (rw (sub-one) at e) (omega arith)
+  deep_below = still_open.0
 
-  -- the record before i becomes an open ancestor
-  pub deep_push : (ancestors i : ℕ) → Deep rs d starts ancestors i → (get_or starts (ancestors - 1) 0 ≡ i → ⊥) → (ancestors ≡ 129 → ⊥) → {t : Tree}
-      → t ≡ last_tree rs (record { end = i; n = i - get_or starts (ancestors - 1) 0 }) → Deep rs d (set starts ancestors t.before.end) (ancestors + 1) (i - 1)
-  unfolding Ordered last_tree
-  deep_push zero i f e h q = absurd (omega (arith, f.some_open))
-  deep_push (suc k) i f e h q =
-      let room : suc k < length starts = omega (arith, f.long, f.few_open) in
-      let e' = rw (sub-one) at e in
-      rw (q, add-one, sub-one) (record {
-        long = length-set starts _ _ ∙ f.long;
-        some_open = omega arith;
-        few_open = omega (arith, f.few_open);
-        base = get_or-set_other starts (suc k) 0 _ 0 (λ z. omega arith) ∙ f.base;
-        ordered = ordered_push rs starts k i f.ordered.0 e' room f.ordered.1;
-        same = f.same ∙ ap (ltb 128) (deepest_push rs starts k i f.ordered.0 e' room);
-      })
+  pub deep_pop : s ≡ i → Deep rs d others i
+  unfolding Ordered
+  deep_pop h = record {
+    few = omega (arith, count);
+    ordered = rw h at still_open.1;
+    same = same_open ∙ deepest_pop rs s (reverse others) i (rw length-reverse (omega (arith, count))) h;
+  }
 
-  -- no record is left
-  pub deep_end : (ancestors i : ℕ) → Deep rs d starts ancestors i → i ≡ 0 → false ≡ ltb 128 d
-  deep_end ancestors i f h =
-      let r : deepest rs starts ancestors 0 ≤ ancestors - 1 = deepest_end rs starts ancestors (rw h at f.ordered) in
-      sym (rw h at f.same ∙ le-ltb 128 (deepest rs starts ancestors 0) (omega (arith, f.few_open)))
+  module _ (apart : s ≡ i → ⊥) where
+    pub deep_full : 128 ≤ length others → ltb 128 d ≡ true
+    deep_full h = same_open ∙ over_full rs s (reverse others) i deep_below apart (rw length-reverse h)
+
+    -- the record before i becomes an open ancestor
+    pub deep_push : length others ≤ 127 → {t : Tree} → t ≡ last_tree rs (record { end = i; n = i - s }) → Deep rs d ((others ++ s ∷ []) ++ t.before.end ∷ []) (i - 1)
+    unfolding Ordered last_tree
+    deep_push h q = rw q (record {
+      few = rw (length-append, length-append) (omega (arith, count));
+      ordered = rw (turned_twice others s) (ordered_push rs s (reverse others) i deep_below apart still_open.1);
+      same = same_open ∙ rw (turned_twice others s) (ap (ltb 128) (deepest_push rs s (reverse others) i deep_below apart));
+    })
 
 -- the rules together
 module _ (F : List ℕ) {l : Layout} (e : l ≡ layout_of F) {a : Bool} (p : a ≡ (has_trailer F && areas_touch F)) where

@@ -2,11 +2,14 @@
 use Rattle.std.specs.Prelude.{ℕ, ◌+◌, ◌^◌, List, [], ◌∷◌, ◌++◌, reverse, Bool, true, false, cond, ◌&&◌, ◌||◌, ltb, leb, eqb, get_or, replicate}
 use Rattle.hir.specs.Tree.{Forest, none, more}
 use Rattle.script_records.specs.Layout.{Words}
-
 -- a scalar: a number below some number, a string by its index, or such an index plus 1, with 0 for none
-pub data Scalar : Type 0 where
-  below : ℕ → Scalar
-  string optional-string : Scalar
+pub use Rattle.script.specs.declared.forms.Scalar.{Scalar}
+pub use Rattle.script.specs.declared.forms.Scalar.TheVariants.{Below as below, String as string, OptionalString as optional-string}
+pub use Rattle.script.specs.declared.forms.Class.{Class}
+pub use Rattle.script.specs.declared.forms.Class.TheVariants.{Statement as statement, Expr as expr, Field as field, Parameter as parameter, Element as element}
+-- a child: one of a class, one that may be absent, a list of a class, or StartDrag's constraints
+pub use Rattle.script.specs.declared.forms.Sort.{Sort}
+pub use Rattle.script.specs.declared.forms.Sort.TheVariants.{One as one, Optional as optional, List as list, Constraints as constraints}
 
 -- what a scalar is below, in a file of m strings
 abbrev pub limit : ℕ → Scalar → ℕ
@@ -32,9 +35,6 @@ marks = below 512
 abbrev word : Scalar
 word = below (2 ^ 32)
 
-pub data Class : Type 0 where
-  statement expr field parameter element : Class
-
 -- the kinds of a class; a switch's elements are statements, 100 (Case) and 101 (Default)
 abbrev pub is_class : Class → ℕ → Bool
 is_class statement k = ltb k 16
@@ -42,11 +42,6 @@ is_class expr k = leb 32 k && ltb k 78
 is_class field k = eqb k 98
 is_class parameter k = eqb k 99
 is_class element k = ltb k 16 || (eqb k 100 || eqb k 101)
-
--- a child: one of a class, one that may be absent, a list of a class, or StartDrag's constraints
-pub data Sort : Type 0 where
-  one optional list : Class → Sort
-  constraints : Sort
 
 -- the words a, b, c and the children; a list, whose a counts its children; a kind that refusal 3 names; no kind
 pub data Form : Type 0 where

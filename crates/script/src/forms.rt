@@ -1,156 +1,260 @@
-// What a record of each kind holds, by tables. A form is a number: its children's sorts from bit 12 on, five bits each, the last child lowest;
-// below them four bits for each of the words a, b, c (`FormCode` in specs/).
-ghost use Rattle.std.specs.Prelude.{◌≡◌, ◌<◌, ◌^◌, length, get_or};
-ghost use Rattle.script_records.specs.Layout.{Words, words_of};
-ghost use Rattle.script.specs.Forms.{form_of, for_in_form, constant_forms, unary_forms, kind_forms, unknown, is_class, expr, element, limit};
-ghost use Rattle.script.specs.FormCode.{form_from, class_from, scalar_from, scalars_fit};
+// What a record of each kind holds: its words and its children.
+ghost use Rattle.std.specs.Prelude.{◌≡◌, get_or};
+ghost use Rattle.script_records.specs.Kind.{number_of};
+ghost use Rattle.script_records.specs.Layout.{words_of};
+ghost use Rattle.script.specs.Forms.{form, below, form_of, for_in_form, constant_forms, unary_forms, unknown, is_class, limit};
+ghost use Rattle.script.specs.FormCode.{form_as};
 
+use script_records::kind::Kind;
 use script_records::layout::Row;
 
-// No kind has this form.
-const UNKNOWN: u32 = 0xf00;
-// The form of ForIn, Classic.
-const CLASSIC: u32 = 0x33181600;
+// A number below some number, a string by its index, or such an index plus 1, with 0 for none.
+#[derive(Clone, Copy)]
+pub enum Scalar {
+    Below(usize),
+    String,
+    OptionalString,
+}
 
-// By kind; ForIn (5), Constant (32) and UnaryOperator (41) have tables of their own.
-const KINDS: [u32; 102] = [
-    0x7700, 0xc000, 0xc000, 0x2000, 0xb000, 0xf00, 0x41000, 0x826000, 0x0, 0x0, 0xe00, 0xe00,
-    0xe00, 0xe00, 0xe00, 0x4f000, 0xf00, 0xf00, 0xf00, 0xf00, 0xf00, 0xf00, 0xf00, 0xf00, 0xf00,
-    0xf00, 0xf00, 0xf00, 0xf00, 0xf00, 0xf00, 0xf00, 0xf00, 0x4c000, 0x4c000, 0x842000, 0x2000,
-    0x2000, 0x2000, 0x0, 0x42500, 0xf00, 0x842000, 0xd000, 0xc000, 0x42000, 0x2000, 0x2000, 0x2000,
-    0x1cb824, 0x2000, 0x42000, 0x2100, 0xe00, 0x2000, 0x2000, 0x2000, 0x42000, 0x2000, 0x2000,
-    0x2000, 0x2000, 0x842000, 0x842000, 0x0, 0x0, 0x0, 0x0, 0x0, 0x50100, 0x0, 0x2000, 0x2000,
-    0x2000, 0x2000, 0x2600, 0x42600, 0x0, 0xf00, 0xf00, 0xf00, 0xf00, 0xf00, 0xf00, 0xf00, 0xf00,
-    0xf00, 0xf00, 0xf00, 0xf00, 0xf00, 0xf00, 0xf00, 0xf00, 0xf00, 0xf00, 0x0, 0xd00, 0x2700,
-    0x730, 0x2000, 0x0,
-];
+// A switch's elements are statements, Case and Default.
+#[derive(Clone, Copy)]
+pub enum Class {
+    Statement,
+    Expr,
+    Field,
+    Parameter,
+    Element,
+}
 
-const CONSTANTS: [u32; 6] = [0x670, 0x670, 0x666, 0x660, 0x610, 0x620];
+// A child: one of a class, one that may be absent, a list of a class, or StartDrag's constraints.
+#[derive(Clone, Copy)]
+pub enum Sort {
+    One(Class),
+    Optional(Class),
+    List(Class),
+    Constraints,
+}
 
-const UNARIES: [u32; 6] = [0x2600, 0x2600, 0x2600, 0x2610, 0x2610, 0x2600];
+// The words a, b, c and the children; a list, whose a counts its children; a kind that refusal 3 names; no kind.
+#[derive(Clone, Copy)]
+pub enum Form {
+    Words {
+        a: Scalar,
+        b: Scalar,
+        c: Scalar,
+        children: &'static [Sort],
+    },
+    Counted,
+    Unsupported,
+    Unknown,
+}
 
-const ENUMERATES: [u32; 3] = [0x41667, 0x41667, 0x41662];
+const UNUSED: Scalar = Scalar::Below(1);
 
-fn entry(kind: u32) -> u32
-    ensures { form_from result ≡ get_or kind_forms kind unknown }
+const BOOL: Scalar = Scalar::Below(2);
+
+const BYTE: Scalar = Scalar::Below(0x100);
+
+const OPTIONAL_BYTE: Scalar = Scalar::Below(0x101);
+
+const MARKS: Scalar = Scalar::Below(0x200);
+
+const OPERATOR: Scalar = Scalar::Below(43);
+
+const WORD: Scalar = Scalar::Below(0x1_0000_0000);
+
+const STATEMENT: Sort = Sort::One(Class::Statement);
+
+const STATEMENTS: Sort = Sort::List(Class::Statement);
+
+const EXPR: Sort = Sort::One(Class::Expr);
+
+const EXPRS: Sort = Sort::List(Class::Expr);
+
+fn words(a: Scalar, b: Scalar, c: Scalar, children: &'static [Sort]) -> Form
+    ensures { form_as result ≡ form a b c children.now }
 {
-    if kind < 102 {
-        KINDS[kind as usize]
-    } else {
-        UNKNOWN
+    Form::Words { a, b, c, children }
+}
+
+// No words are used.
+fn plain(children: &'static [Sort]) -> Form
+    ensures { form_as result ≡ form (below 1) (below 1) (below 1) children.now }
+{
+    words(UNUSED, UNUSED, UNUSED, children)
+}
+
+// ConstantKind, by its place.
+fn constant_form(a: u32) -> Form
+    ensures { form_as result ≡ get_or constant_forms a unknown }
+{
+    match a {
+        0 | 1 => words(WORD, Scalar::String, UNUSED, &[]),
+        2 => words(WORD, WORD, WORD, &[]),
+        3 => words(WORD, WORD, UNUSED, &[]),
+        4 => words(WORD, BOOL, UNUSED, &[]),
+        5 => words(WORD, BYTE, UNUSED, &[]),
+        _ => Form::Unknown,
     }
 }
 
-fn constant_form(a: u32) -> u32
-    ensures { form_from result ≡ get_or constant_forms a unknown }
+// UnaryOperator, by its place.
+fn unary_form(a: u32) -> Form
+    ensures { form_as result ≡ get_or unary_forms a unknown }
 {
-    if a < 6 {
-        CONSTANTS[a as usize]
-    } else {
-        UNKNOWN
+    match a {
+        0 | 1 | 2 | 5 => words(WORD, UNUSED, UNUSED, &[EXPR]),
+        3 | 4 => words(WORD, BOOL, UNUSED, &[EXPR]),
+        _ => Form::Unknown,
     }
 }
 
-fn unary_form(a: u32) -> u32
-    ensures { form_from result ≡ get_or unary_forms a unknown }
+// Enumerate of a variable, a declared variable or a register, or Classic.
+fn for_in_form(a: u32, b: u32) -> Form
+    ensures { form_as result ≡ for_in_form a b }
 {
-    if a < 6 { UNARIES[a as usize] } else { UNKNOWN }
+    match (a, b) {
+        (0, 0 | 1) => words(WORD, WORD, Scalar::String, &[EXPR, STATEMENT]),
+        (0, 2) => words(WORD, WORD, BYTE, &[EXPR, STATEMENT]),
+        (1, _) => words(
+            WORD,
+            UNUSED,
+            UNUSED,
+            &[Sort::Optional(Class::Statement), EXPRS, EXPRS, STATEMENT],
+        ),
+        _ => Form::Unknown,
+    }
 }
 
-fn for_in_form(a: u32, b: u32) -> u32
-    ensures { form_from result ≡ for_in_form a b }
+// The form of a record of that kind.
+#[tactic(auto, unfolding(crate::specs::Forms::form_of))]
+fn form_of_kind(kind: Kind, r: Row) -> Form
+    ensures { form_as result ≡ form_of (record { kind = number_of kind; a = r.a; b = r.b; c = r.c }) }
 {
-    if a == 0 {
-        return if b < 3 {
-            ENUMERATES[b as usize]
-        } else {
-            UNKNOWN
-        };
+    match kind {
+        Kind::Declare => words(
+            Scalar::String,
+            UNUSED,
+            UNUSED,
+            &[Sort::Optional(Class::Expr)],
+        ),
+        Kind::Return | Kind::Throw | Kind::InitArray => plain(&[EXPRS]),
+        Kind::Block => plain(&[STATEMENTS]),
+        Kind::While => plain(&[EXPR, STATEMENT]),
+        Kind::If => plain(&[EXPR, STATEMENT, Sort::Optional(Class::Statement)]),
+        Kind::Switch => plain(&[EXPR, Sort::List(Class::Element)]),
+        Kind::Call | Kind::New => plain(&[EXPR, EXPRS]),
+        Kind::DuplicateMovieClip | Kind::Ternary | Kind::Substring | Kind::MBSubstring => plain(&[
+            EXPR, EXPR, EXPR,
+        ]),
+        Kind::Binary => words(OPERATOR, UNUSED, UNUSED, &[EXPR, EXPR]),
+        Kind::InitObject => plain(&[Sort::List(Class::Field)]),
+        Kind::Field | Kind::SetVariable | Kind::CastToObject => plain(&[EXPR, EXPR]),
+        Kind::Function => words(
+            Scalar::OptionalString,
+            BYTE,
+            MARKS,
+            &[Sort::List(Class::Parameter), STATEMENTS],
+        ),
+        Kind::GotoFrame => words(BOOL, UNUSED, UNUSED, &[EXPR]),
+        Kind::StartDrag => words(BOOL, UNUSED, UNUSED, &[EXPR, Sort::Constraints]),
+        Kind::GetProperty => words(WORD, UNUSED, UNUSED, &[EXPR]),
+        Kind::SetProperty => words(WORD, UNUSED, UNUSED, &[EXPR, EXPR]),
+        Kind::List => Form::Counted,
+        Kind::ObjectField => words(Scalar::String, UNUSED, UNUSED, &[EXPR]),
+        Kind::Parameter => words(Scalar::String, OPTIONAL_BYTE, UNUSED, &[]),
+        Kind::Break
+        | Kind::Continue
+        | Kind::GetTime
+        | Kind::NextFrame
+        | Kind::PreviousFrame
+        | Kind::Play
+        | Kind::Stop
+        | Kind::StopSounds
+        | Kind::EndDrag
+        | Kind::ToggleQuality
+        | Kind::Absent
+        | Kind::Default => plain(&[]),
+        Kind::Try
+        | Kind::WaitForFrame
+        | Kind::TellTarget
+        | Kind::InlinePcode
+        | Kind::With
+        | Kind::GetUrl => Form::Unsupported,
+        Kind::ForIn => for_in_form(r.a, r.b),
+        Kind::Constant => constant_form(r.a),
+        Kind::Unary => unary_form(r.a),
+        Kind::Expr
+        | Kind::AsciiToChar
+        | Kind::MBAsciiToChar
+        | Kind::CallFrame
+        | Kind::TypeOf
+        | Kind::Delete
+        | Kind::Void
+        | Kind::GetVariable
+        | Kind::CastToInteger
+        | Kind::CastToNumber
+        | Kind::CastToString
+        | Kind::StringLength
+        | Kind::MBStringLength
+        | Kind::CharToAscii
+        | Kind::MBCharToAscii
+        | Kind::GetTargetPath
+        | Kind::Trace
+        | Kind::RemoveSprite
+        | Kind::GetRandomNumber
+        | Kind::Case => plain(&[EXPR]),
     }
-    if a == 1 { CLASSIC } else { UNKNOWN }
 }
 
 // The form of a record.
-pub fn form_of(r: Row) -> u32
-    ensures { form_from result ≡ form_of (words_of r) }
+pub(crate) fn form_of(r: Row) -> Form
+    ensures { form_as result ≡ form_of (words_of r) }
 {
-    if r.kind == 5 {
-        return for_in_form(r.a, r.b);
-    }
-    if r.kind == 32 {
-        return constant_form(r.a);
-    }
-    if r.kind == 41 {
-        return unary_form(r.a);
-    }
-    entry(r.kind)
-}
-
-fn is_expr(kind: u32) -> bool
-    ensures { result ≡ is_class expr kind }
-{
-    if kind < 32 {
-        return false;
-    }
-    kind < 78
-}
-
-fn is_element(kind: u32) -> bool
-    ensures { result ≡ is_class element kind }
-{
-    if kind < 16 {
-        return true;
-    }
-    if kind == 100 {
-        return true;
-    }
-    kind == 101
-}
-
-// A kind of the class.
-pub fn is_class(class: u32, kind: u32) -> bool
-    ensures { result ≡ is_class (class_from class) kind }
-{
-    match class {
-        0 => kind < 16,
-        1 => is_expr(kind),
-        2 => kind == 98,
-        3 => kind == 99,
-        _ => is_element(kind),
+    match Kind::try_from(r.kind) {
+        Ok(kind) => form_of_kind(kind, r),
+        Err(_) => Form::Unknown,
     }
 }
 
-// The limits of the scalars that do not depend on the strings.
-const LIMITS: [usize; 7] = [1, 2, 256, 257, 512, 43, 0x1_0000_0000];
+const SWITCH: u32 = Kind::Switch as u32;
 
-// A scalar is below this, in a file of so many strings. Most scalars are unused words: 0 comes first, before the table is copied to the stack.
-fn limit_of(digit: u32, strings: u32) -> usize
-    ensures { result ≡ limit strings (scalar_from digit) }
-{
-    if digit == 0 {
-        return 1;
+const CONSTANT: u32 = Kind::Constant as u32;
+
+const TOGGLE_QUALITY: u32 = Kind::ToggleQuality as u32;
+
+const OBJECT_FIELD: u32 = Kind::ObjectField as u32;
+
+const PARAMETER: u32 = Kind::Parameter as u32;
+
+const CASE: u32 = Kind::Case as u32;
+
+const DEFAULT: u32 = Kind::Default as u32;
+
+impl Class {
+    // A kind of the class.
+    pub(crate) fn has(self, kind: u32) -> bool
+        ensures { result ≡ is_class self kind }
+    {
+        match self {
+            Class::Statement => kind <= SWITCH,
+            Class::Expr => matches!(kind, CONSTANT..=TOGGLE_QUALITY),
+            Class::Field => kind == OBJECT_FIELD,
+            Class::Parameter => kind == PARAMETER,
+            Class::Element => matches!(kind, 0..=SWITCH | CASE | DEFAULT),
+        }
     }
-    if digit < 7 {
-        return LIMITS[digit as usize];
-    }
-    if digit == 7 {
-        return strings as usize;
-    }
-    if digit == 8 { strings as usize + 1 } else { 0 }
 }
 
-// The words a, b, c fit the form's scalars.
-pub fn scalars_fit(form: u32, r: Row, strings: u32) -> bool
-    ensures { result ≡ scalars_fit strings form r }
-{
-    let la = limit_of(form / 256 % 16, strings);
-    if la <= r.a as usize {
-        return false;
+impl Scalar {
+    // The scalar is below this, in a file of so many strings.
+    pub(crate) fn limit(self, strings: u32) -> usize
+        ensures { result ≡ limit strings self }
+    {
+        match self {
+            Scalar::Below(n) => n,
+            Scalar::String => strings as usize,
+            Scalar::OptionalString => strings as usize + 1,
+        }
     }
-    let lb = limit_of(form / 16 % 16, strings);
-    if lb <= r.b as usize {
-        return false;
-    }
-    let lc = limit_of(form % 16, strings);
-    (r.c as usize) < lc
 }

@@ -8,23 +8,18 @@ ghost use Rattle.script.specs.Rules.{rules_hold, check_of};
 
 use crate::rules::{ends_hold, kinds_supported, records_hold, strings_hold, too_deep};
 use refusal::Refusal;
-use script_records::layout::{Layout, areas_hold, layout_of};
+use script_records::layout::{ScriptFile, areas_hold};
 
-mod forms;
+pub mod forms;
 mod record_rules;
 mod rules;
 
-fn rules_hold(file: &[u8], l: Layout) -> bool
-    requires { l ≡ layout_of file.now }
-    ensures { result ≡ rules_hold file.now }
+#[tactic(auto, unfolding(crate::specs::Rules::rules_hold))]
+fn rules_hold(script: &ScriptFile) -> bool
+    requires { script.now.layout ≡ layout_of script.now.bytes.now }
+    ensures { result ≡ rules_hold script.now.bytes.now }
 {
-    if !areas_hold(file) {
-        return false;
-    }
-    if !ends_hold(file, l) {
-        return false;
-    }
-    records_hold(file, l)
+    areas_hold(script.bytes) && ends_hold(script) && records_hold(script)
 }
 
 // Accepts a file of any content, or refuses it: by 4 for its bytes, 1, 2, 3, or 4 for its depth.
@@ -35,17 +30,17 @@ pub fn check(file: &[u8]) -> Result<(), Refusal>
     if 1048576 < file.len() {
         return Err(Refusal::OverLimit);
     }
-    let l = layout_of(file);
-    if !rules_hold(file, l) {
+    let script = ScriptFile::new(file);
+    if !rules_hold(&script) {
         return Err(Refusal::BrokenRule);
     }
-    if !strings_hold(file, l) {
+    if !strings_hold(&script) {
         return Err(Refusal::NotUtf8);
     }
-    if !kinds_supported(file, l) {
+    if !kinds_supported(&script) {
         return Err(Refusal::Unsupported);
     }
-    if too_deep(file, l) {
+    if too_deep(&script) {
         return Err(Refusal::OverLimit);
     }
     Ok(())

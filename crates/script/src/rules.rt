@@ -4,112 +4,91 @@ ghost use Rattle.hir.specs.Tree.{depth};
 ghost use Rattle.script_records.specs.Layout.{rows_of, strings_of};
 ghost use Rattle.script.specs.Rules.{ends_hold, records_hold, root_holds, all_utf8, all_supported, tree_in, max_depth};
 
+use crate::forms::Class;
 use crate::record_rules::{is_list, record_holds};
+use arrayvec::ArrayVec;
 use decode::is_supported;
-use script_records::layout::{Layout, end_at, row_at, start_at, string};
-use script_records::part::{Part, last_tree};
+use script_records::layout::ScriptFile;
+use script_records::part::Part;
 
 // Ends never fall, and the last one is where the string bytes end.
-pub fn ends_hold(file: &[u8], l: Layout) -> bool
-    ensures { result ≡ ends_hold file.now l }
+pub fn ends_hold(script: &ScriptFile) -> bool
+    ensures { result ≡ ends_hold script.now.bytes.now script.now.layout }
 {
-    let n = l.strings as usize;
-    let mut i = 0;
-    while i < n {
-        if end_at(file, l, i) < start_at(file, l, i) {
+    let n = script.layout.strings as usize;
+    for i in 0..n {
+        if script.end_at(i) < script.start_at(i) {
             return false;
         }
-        i += 1;
     }
-    start_at(file, l, n) == l.ends
+    script.start_at(n) == script.layout.ends
 }
 
 // The last record is a list of statements and counts all records.
-fn root_holds(file: &[u8], l: Layout) -> bool
-    ensures { result ≡ root_holds (rows_of file.now l) l.count }
+fn root_holds(script: &ScriptFile) -> bool
+    ensures { result ≡ root_holds (rows_of script.now.bytes.now script.now.layout) script.now.layout.count }
 {
-    let n = l.count as usize;
+    let n = script.layout.count as usize;
     if n == 0 {
         return false;
     }
-    let t = last_tree(file, l, Part { end: n, n });
-    if t.row.size as usize != n {
-        return false;
-    }
-    is_list(file, l, t, 0)
+    let t = script.last_tree(Part { end: n, n });
+    t.row.size as usize == n && is_list(script, t, Class::Statement)
 }
 
-pub fn records_hold(file: &[u8], l: Layout) -> bool
-    ensures { result ≡ records_hold file.now l }
+pub fn records_hold(script: &ScriptFile) -> bool
+    ensures { result ≡ records_hold script.now.bytes.now script.now.layout }
 {
-    let n = l.count as usize;
-    let mut i = 0;
-    while i < n {
-        if !record_holds(file, l, i) {
+    for i in 0..script.layout.count as usize {
+        if !record_holds(script, i) {
             return false;
         }
-        i += 1;
     }
-    root_holds(file, l)
+    root_holds(script)
 }
 
 // Every string of the table is UTF-8 by itself.
-pub fn strings_hold(file: &[u8], l: Layout) -> bool
-    ensures { result ≡ all_utf8 (strings_of file.now l) }
+pub fn strings_hold(script: &ScriptFile) -> bool
+    ensures { result ≡ all_utf8 (strings_of script.now.bytes.now script.now.layout) }
 {
-    let n = l.strings as usize;
-    let mut i = 0;
-    while i < n {
-        if !utf8::is_utf8(string(file, l, i)) {
+    for i in 0..script.layout.strings as usize {
+        if !utf8::is_utf8(script.string(i)) {
             return false;
         }
-        i += 1;
     }
     true
 }
 
-pub fn kinds_supported(file: &[u8], l: Layout) -> bool
-    ensures { result ≡ all_supported (rows_of file.now l) l.count }
+pub fn kinds_supported(script: &ScriptFile) -> bool
+    ensures { result ≡ all_supported (rows_of script.now.bytes.now script.now.layout) script.now.layout.count }
 {
-    let n = l.count as usize;
-    let mut i = 0;
-    while i < n {
-        let r = row_at(file, l, i);
-        if !is_supported(r.kind) {
+    for i in 0..script.layout.count as usize {
+        if !is_supported(script.row_at(i).kind) {
             return false;
         }
-        i += 1;
     }
     true
 }
 
 // The tree is deeper than 128. The walk goes from the last record to the first and keeps where the subtree of each open ancestor starts,
 // below them 0 for the whole file.
-pub fn too_deep(file: &[u8], l: Layout) -> bool
-    ensures { result ≡ ltb max_depth (depth (tree_in file.now l)) }
+pub fn too_deep(script: &ScriptFile) -> bool
+    ensures { result ≡ ltb max_depth (depth (tree_in script.now.bytes.now script.now.layout)) }
 {
-    let mut starts = [0usize; 129];
-    let mut ancestors: usize = 1;
-    let mut i = l.count as usize;
-    while i != 0 {
-        let start = starts[ancestors - 1];
-        if start == i {
-            ancestors -= 1;
-        } else {
-            if ancestors == 129 {
+    let mut starts = ArrayVec::<usize, 129>::new();
+    starts.push(0);
+    let mut i = script.layout.count as usize;
+    while let Some(start) = starts.pop() {
+        if start != i {
+            if starts.len() == 128 {
                 return true;
             }
-            let t = last_tree(
-                file,
-                l,
-                Part {
-                    end: i,
-                    n: i - start,
-                },
-            );
-            let b = t.before;
-            starts[ancestors] = b.end;
-            ancestors += 1;
+            let t = script.last_tree(Part {
+                end: i,
+                n: i - start,
+            });
+            starts.push(start);
+            starts.push(t.before.end);
             i -= 1;
         }
     }

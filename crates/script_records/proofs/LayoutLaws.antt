@@ -4,7 +4,7 @@ use mathlib.Core.Path.{◌≡◌, refl, sym, ap}
 use mathlib.Core.List.{List, [], ◌∷◌}
 use native.Mathlib.Omega.{arith}
 use native.Mathlib.Numerals.{sub-one}
-use mathlib.Core.Bool.{true, false}
+use mathlib.Core.Bool.{true}
 use borrow.Author.Tests.{ne_eqb, le-leb, lt-leb}
 use lib.ListN.{length, take, drop, length-drop, get_or-eq_default}
 use Rattle.std.proofs.lemmas.List.{take_min, drop_min}
@@ -87,16 +87,6 @@ module _ (F : List ℕ) (l : Layout) (i : ℕ) where
   unfolding string_at
   string_part {s} {e} p q = rw (← p, ← q) (kept_part F s e)
 
--- the kinds that refusal 3 names
-module _ (k : ℕ) where
-  pub supported_url : k ≡ 53 → false ≡ supported k
-  supported_url h = rw h
-
-  pub supported_low : (k ≡ 53 → ⊥) → k < 10 → true ≡ supported k
-  supported_low h l = rw (ne_eqb k 53 h, lt-leb 10 k l)
-
-  pub supported_named : 10 ≤ k → k ≤ 14 → false ≡ supported k
-  supported_named h l = rw (le-leb 10 k h, le-leb k 14 l)
-
-  pub supported_high : (k ≡ 53 → ⊥) → 14 < k → true ≡ supported k
-  supported_high h l = rw (ne_eqb k 53 h, le-leb 10 k (omega arith), lt-leb k 14 l)
+-- the kinds past those statements that refusal 3 names
+pub supported_high : (k : ℕ) → (k ≡ 53 → ⊥) → 14 < k → true ≡ supported k
+supported_high k h l = rw (ne_eqb k 53 h, le-leb 10 k (omega arith), lt-leb k 14 l)

@@ -1,3 +1,4 @@
+pub mod KindLaws
 pub mod LayoutLaws
 pub mod TableReads
 pub mod Trees

@@ -20,7 +20,7 @@ use Rattle.lowering.specs.Meaning.{Loop, width, present, param, string, integer}
 use Rattle.lowering.specs.Statement.{jump, branch, expr, discarded, exprs, all_discarded, gen_those, gen_statements, gen_block, gen_values, gen_declaration, with_labels, has_case, has_default, gen_conditionals, gen_elements, gen_cases, gen_switch, gen_while_loop, gen_target, gen_condition, gen_enumerate, gen_classic, gen_branches, gen_if, assign_value, gen_trivial, gen_binary_op, is_prefix, adjust_in_place, gen_ternary, gen_arguments, gen_call, gen_new, gen_fields, gen_init_object, gen_init_array, gen_duplicate, frame, gen_goto_frame, bit, gen_start_drag}
 use Rattle.lowering.proofs.Laws.{width_law}
 use Rattle.list_slice.specs.File.{text_in}
-use Rattle.codegen_state.specs.declared.CodeBuilder.{CodeBuilder}
+use Rattle.codegen_state.specs.declared.BuilderState.{BuilderState}
 use Rattle.codegen_state.specs.Does.{Fine, Does}
 use Rattle.codegen_state.proofs.Steps.{idle, after_done, after_then, after_bind, after_size, carry_held, returned}
 use Rattle.tree.specs.declared.Node.{Node}
@@ -39,8 +39,8 @@ both_false false false e = (refl, refl)
 both_false false true e = absurd (omega (arith, ap (λ (x : Bool). cond {A = ℕ} x 1 0) e))
 both_false true q e = absurd (omega (arith, ap (λ (x : Bool). cond {A = ℕ} x 1 0) e))
 
-module _ {F : List ℕ} (l : Layout) (p : Part) {b : CodeBuilder} {w : List ℕ} where
-  pub statements_arm : {b1 b2 : CodeBuilder} {w1 w2 : List ℕ} →
+module _ {F : List ℕ} (l : Layout) (p : Part) {b : BuilderState} {w : List ℕ} where
+  pub statements_arm : {b1 b2 : BuilderState} {w1 w2 : List ℕ} →
       (lp : Loop) →
       Does F (each_of Hoisted lp 0 0 (meanings_at F p)) b w tt b1 w1 →
       Does F (each_of Unhoisted lp 0 0 (meanings_at F p)) b1 w1 tt b2 w2 →
@@ -50,7 +50,7 @@ module _ {F : List ℕ} (l : Layout) (p : Part) {b : CodeBuilder} {w : List ℕ}
       let e2 = same_does (gen_those false lp (meanings_at F p)) (each_of Unhoisted lp 0 0 (meanings_at F p)) (others_each lp 0 0 (meanings_at F p)) d2 in
       record { same = rw (after_then, ← e1.same, e2.same); fine = d2.fine; named = λ n. d2.named (d1.named n) }
 
-  pub unhoisted_arm : {b1 : CodeBuilder} {w1 : List ℕ} →
+  pub unhoisted_arm : {b1 : BuilderState} {w1 : List ℕ} →
       (lp : Loop) →
       {h : Bool} → h ≡ any_hoisted (meanings_at F p) → h ≡ false →
       Fine b w →
@@ -62,7 +62,7 @@ module _ {F : List ℕ} (l : Layout) (p : Part) {b : CodeBuilder} {w : List ℕ}
       let others = same_does (each_of Unhoisted lp 0 0 (meanings_at F p)) (each_of Statement lp 0 0 (meanings_at F p)) (statements_each lp 0 0 (meanings_at F p) none') d in
       statements_arm lp first others
 
-  pub field_arm : {b1 b2 : CodeBuilder} {w1 w2 : List ℕ} →
+  pub field_arm : {b1 b2 : BuilderState} {w1 w2 : List ℕ} →
       {t : Node Part} → IsNode F l p t →
       (key : ℕ) → text_in F key ≡ (param (rec_of F t.root)).name →
       Does F (push_string (text_in F key)) b w tt b1 w1 →
@@ -71,7 +71,7 @@ module _ {F : List ℕ} (l : Layout) (p : Part) {b : CodeBuilder} {w : List ℕ}
   field_arm {t = t} n key e d1 d2 =
       record { same = rw (rec_is n, ← e, after_then, ← d1.same, d2.same); fine = d2.fine; named = λ n. d2.named (d1.named n) }
 
-  pub test_arm : {b1 b2 b3 b4 : CodeBuilder} {w1 w2 w3 w4 : List ℕ} →
+  pub test_arm : {b1 b2 b3 b4 : BuilderState} {w1 w2 w3 w4 : List ℕ} →
       (first seen cases : ℕ) →
       Does F (when (ltb 0 cases) (push (Value.Register 0))) b w tt b1 w1 →
       Does F ((kid_at F p 0).gen_expr false) b1 w1 tt b2 w2 →
@@ -81,7 +81,7 @@ module _ {F : List ℕ} (l : Layout) (p : Part) {b : CodeBuilder} {w : List ℕ}
   test_arm first seen cases d1 d2 d3 d4 =
       record { same = rw (after_then, ← d1.same, after_then, ← d2.same, after_then, ← d3.same, d4.same); fine = d4.fine; named = λ n. d4.named (d3.named (d2.named (d1.named n))) }
 
-  pub block_arm : {b1 b2 : CodeBuilder} {w1 w2 : List ℕ} →
+  pub block_arm : {b1 b2 : BuilderState} {w1 w2 : List ℕ} →
       (lp : Loop) →
       {body : Part} → IsList F l p 0 body →
       {inner : Part} → Innermost F l lp body inner →
@@ -91,7 +91,7 @@ module _ {F : List ℕ} (l : Layout) (p : Part) {b : CodeBuilder} {w : List ℕ}
   block_arm lp {body = body} k-body {inner = inner} i d1 d2 =
       record { same = rw (k-body.means, i.same, after_size, after_then, ← d1.same, d2.same); fine = d2.fine; named = λ n. d2.named (d1.named n) }
 
-  pub local_arm : {b1 b2 b3 : CodeBuilder} {w1 w2 w3 : List ℕ} →
+  pub local_arm : {b1 b2 b3 : BuilderState} {w1 w2 w3 : List ℕ} →
       (name : Str) →
       Does F (push_string name) b w tt b1 w1 →
       Does F ((kid_at F p 0).gen_expr false) b1 w1 tt b2 w2 →
@@ -100,7 +100,7 @@ module _ {F : List ℕ} (l : Layout) (p : Part) {b : CodeBuilder} {w : List ℕ}
   local_arm name d1 d2 d3 =
       record { same = rw (after_then, after_then, ← d1.same, ← d2.same, d3.same); fine = d3.fine; named = λ n. d3.named (d2.named (d1.named n)) }
 
-  pub local_none_arm : {b1 b2 : CodeBuilder} {w1 w2 : List ℕ} →
+  pub local_none_arm : {b1 b2 : BuilderState} {w1 w2 : List ℕ} →
       (name : Str) →
       Does F (push_string name) b w tt b1 w1 →
       Does F (action DefineLocal2) b1 w1 tt b2 w2 →
@@ -108,7 +108,7 @@ module _ {F : List ℕ} (l : Layout) (p : Part) {b : CodeBuilder} {w : List ℕ}
   local_none_arm name d1 d2 =
       record { same = rw (after_then, ← d1.same, d2.same); fine = d2.fine; named = λ n. d2.named (d1.named n) }
 
-  pub no_values_arm : {b1 b2 : CodeBuilder} {w1 w2 : List ℕ} →
+  pub no_values_arm : {b1 b2 : BuilderState} {w1 w2 : List ℕ} →
       {es : Part} → IsList F l p 0 es →
       es.n ≡ 0 →
       (o : Op) →
@@ -118,7 +118,7 @@ module _ {F : List ℕ} (l : Layout) (p : Part) {b : CodeBuilder} {w : List ℕ}
   no_values_arm {es = es} k-es z o d1 d2 =
       record { same = rw (k-es.means, none_at F es z, after_then, ← d1.same, d2.same); fine = d2.fine; named = λ n. d2.named (d1.named n) }
 
-  pub values_arm : {b1 b2 : CodeBuilder} {w1 w2 : List ℕ} →
+  pub values_arm : {b1 b2 : BuilderState} {w1 w2 : List ℕ} →
       (lp : Loop) →
       {es : Part} → IsList F l p 0 es →
       (es.n ≡ 0 → ⊥) →
@@ -130,7 +130,7 @@ module _ {F : List ℕ} (l : Layout) (p : Part) {b : CodeBuilder} {w : List ℕ}
       let e1 = same_does (exprs (meanings_at F es)) (each_of Expr lp 0 0 (meanings_at F es)) (exprs_each lp 0 0 (meanings_at F es)) d1 in
       record { same = rw (k-es.means, values_law k-es.within z o, after_then, ← e1.same, d2.same); fine = d2.fine; named = λ n. d2.named (d1.named n) }
 
-  pub switch_arm : {b1 b2 b3 : CodeBuilder} {w3 : List ℕ} →
+  pub switch_arm : {b1 b2 b3 : BuilderState} {w3 : List ℕ} →
       (lp : Loop) →
       Does F (create_label) b w b.labels b1 w →
       Does F (with_labels (list_at F p 0)) b1 w (elements_from b1.labels (list_at F p 0)) b2 w →
@@ -139,7 +139,7 @@ module _ {F : List ℕ} (l : Layout) (p : Part) {b : CodeBuilder} {w : List ℕ}
   switch_arm lp d1 d2 d3 =
       record { same = rw (after_bind, ← d1.same, carry_held, after_bind, ← d2.same, carry_held, d3.same); fine = d3.fine; named = λ n. d3.named (d2.named (d1.named n)) }
 
-  cases_arm : {b1 b2 b3 b4 : CodeBuilder} {w1 w2 w3 w4 : List ℕ} →
+  cases_arm : {b1 b2 b3 b4 : BuilderState} {w1 w2 w3 w4 : List ℕ} →
       (lp inner : Loop) (end first default n : ℕ) →
       {es : Part} → IsList F l p 0 es →
       Switching F p end first default n →
@@ -156,7 +156,7 @@ module _ {F : List ℕ} (l : Layout) (p : Part) {b : CodeBuilder} {w : List ℕ}
   pub no_tests_arm : (first n : ℕ) → Testing F p first n → n ≡ 0 → Fine b w → Does F (select (kid_at F p 1) (elements_from first (list_at F p 0))) b w tt b w
   no_tests_arm first n s z f = rw (has_no_tests s z) (idle f)
 
-  pub tests_arm : {b1 b2 b3 : CodeBuilder} {w1 w2 w3 : List ℕ} →
+  pub tests_arm : {b1 b2 b3 : BuilderState} {w1 w2 w3 : List ℕ} →
       (lp : Loop) (first d n : ℕ) →
       {target : Part} → IsKid F l p 1 target →
       {es : Part} → IsList F l p 0 es →
@@ -170,7 +170,7 @@ module _ {F : List ℕ} (l : Layout) (p : Part) {b : CodeBuilder} {w : List ℕ}
       let e3 = same_does (gen_conditionals (elements_from first (list_at F p 0))) (each_of Conditional lp first d (meanings_at F es)) (λ v. rw k-es.means (tests_each first lp d (meanings_at F es) v)) d3 in
       record { same = rw (has_tests s z, k-target.meaning, after_then, after_then, ← d1.same, ← d2.same, e3.same); fine = d3.fine; named = λ n. d3.named (d2.named (d1.named n)) }
 
-  pub while_arm : {b1 b2 b3 b4 b5 b6 b7 b8 b9 : CodeBuilder} {w3 w4 w5 w6 w7 w8 w9 : List ℕ} →
+  pub while_arm : {b1 b2 b3 b4 b5 b6 b7 b8 b9 : BuilderState} {w3 w4 w5 w6 w7 w8 w9 : List ℕ} →
       {condition : Part} → IsKid F l p 1 condition →
       (inner : Loop) → inner ≡ record { break_label = some b1.labels; continue_label = some b.labels } →
       Does F (create_label) b w b.labels b1 w →
@@ -187,7 +187,7 @@ module _ {F : List ℕ} (l : Layout) (p : Part) {b : CodeBuilder} {w : List ℕ}
       let e7 = rw i at d7 in
       record { same = rw (k-condition.meaning, after_bind, ← d1.same, carry_held, after_bind, ← d2.same, carry_held, after_then, ← d3.same, after_then, ← d4.same, after_then, ← d5.same, after_then, ← d6.same, after_then, ← e7.same, after_then, ← d8.same, d9.same); fine = d9.fine; named = λ n. d9.named (d8.named (d7.named (d6.named (d5.named (d4.named (d3.named (d2.named (d1.named n)))))))) }
 
-  pub for_in_arm : {b1 b2 b3 b4 b5 b6 b7 b8 b9 b10 b11 b12 b13 b14 : CodeBuilder} {w3 w4 w5 w6 w7 w8 w9 w10 w11 w12 w13 w14 : List ℕ} →
+  pub for_in_arm : {b1 b2 b3 b4 b5 b6 b7 b8 b9 b10 b11 b12 b13 b14 : BuilderState} {w3 w4 w5 w6 w7 w8 w9 w10 w11 w12 w13 w14 : List ℕ} →
       (target : EnumeratorTarget) →
       {object : Part} → IsKid F l p 1 object →
       (inner : Loop) → inner ≡ record { break_label = some b.labels; continue_label = some b1.labels } →
@@ -210,7 +210,7 @@ module _ {F : List ℕ} (l : Layout) (p : Part) {b : CodeBuilder} {w : List ℕ}
       let e11 = rw i at d11 in
       record { same = rw (k-object.meaning, after_size, after_bind, ← d1.same, carry_held, after_bind, ← d2.same, carry_held, after_then, ← d3.same, after_then, ← d4.same, after_then, ← d5.same, after_then, ← d6.same, after_then, ← d7.same, after_then, ← d8.same, after_then, ← d9.same, after_then, ← d10.same, after_then, ← e11.same, after_then, ← d12.same, after_then, ← d13.same, d14.same); fine = d14.fine; named = λ n. d14.named (d13.named (d12.named (d11.named (d10.named (d9.named (d8.named (d7.named (d6.named (d5.named (d4.named (d3.named (d2.named (d1.named n))))))))))))) }
 
-  pub for_loop_arm : {b1 b2 b3 b4 b5 b6 b7 b8 b9 b10 b11 b12 : CodeBuilder} {w3 w5 w6 w7 w8 w9 w10 w11 w12 : List ℕ} →
+  pub for_loop_arm : {b1 b2 b3 b4 b5 b6 b7 b8 b9 b10 b11 b12 : BuilderState} {w3 w5 w6 w7 w8 w9 w10 w11 w12 : List ℕ} →
       {initialize : Part} → IsKid F l p 3 initialize →
       {condition : Part} → IsList F l p 2 condition →
       {update : Part} → IsList F l p 1 update →
@@ -234,7 +234,7 @@ module _ {F : List ℕ} (l : Layout) (p : Part) {b : CodeBuilder} {w : List ℕ}
       let e9 = same_does (all_discarded (meanings_at F update)) (each_of Discarded inner 0 0 (meanings_at F update)) (discarded_each inner 0 0 (meanings_at F update)) d9 in
       record { same = rw (k-initialize.meaning, k-condition.means, k-update.means, after_size, after_bind, ← d1.same, carry_held, after_bind, ← d2.same, carry_held, present_law F initialize, after_then, ← e3.same, after_bind, ← d4.same, carry_held, after_then, ← d5.same, after_then, ← d6.same, after_then, ← e7.same, after_then, ← d8.same, after_then, ← e9.same, after_then, ← d10.same, after_then, ← d11.same, d12.same); fine = d12.fine; named = λ n. d12.named (d11.named (d10.named (d9.named (d8.named (d7.named (d6.named (d5.named (d4.named (d3.named (d2.named (d1.named n))))))))))) }
 
-  pub ends_arm : {b1 b2 b3 b4 : CodeBuilder} {w1 w2 w3 w4 : List ℕ} →
+  pub ends_arm : {b1 b2 b3 b4 : BuilderState} {w1 w2 w3 w4 : List ℕ} →
       (lp : Loop) →
       (end : ℕ) →
       {t : Node Part} → IsNode F l p t →
@@ -248,7 +248,7 @@ module _ {F : List ℕ} (l : Layout) (p : Part) {b : CodeBuilder} {w : List ℕ}
       let e1 = same_does (all_discarded (meanings_at F t.before)) (each_of Discarded lp 0 0 (meanings_at F t.before)) (discarded_each lp 0 0 (meanings_at F t.before)) d1 in
       record { same = rw (condition_law n z end, after_then, after_then, after_then, ← e1.same, ← d2.same, ← d3.same, d4.same); fine = d4.fine; named = λ n. d4.named (d3.named (d2.named (d1.named n))) }
 
-  if_arm : {b1 b2 b3 b4 b5 : CodeBuilder} {w2 w3 w4 w5 : List ℕ} →
+  if_arm : {b1 b2 b3 b4 b5 : BuilderState} {w2 w3 w4 w5 : List ℕ} →
       (lp : Loop) →
       {condition : Part} → IsKid F l p 2 condition →
       Does F (create_label) b w b.labels b1 w →
@@ -260,7 +260,7 @@ module _ {F : List ℕ} (l : Layout) (p : Part) {b : CodeBuilder} {w : List ℕ}
   if_arm lp {condition = condition} k-condition d1 d2 d3 d4 d5 =
       record { same = rw (k-condition.meaning, after_bind, ← d1.same, carry_held, after_then, ← d2.same, after_then, ← d3.same, after_then, ← d4.same, d5.same); fine = d5.fine; named = λ n. d5.named (d4.named (d3.named (d2.named (d1.named n)))) }
 
-  both_arm : {b1 b2 b3 b4 b5 b6 : CodeBuilder} {w2 w3 w4 w5 w6 : List ℕ} →
+  both_arm : {b1 b2 b3 b4 b5 b6 : BuilderState} {w2 w3 w4 w5 w6 : List ℕ} →
       (lp : Loop) →
       (end : ℕ) →
       {yes' : Part} → IsKid F l p 1 yes' →
@@ -274,7 +274,7 @@ module _ {F : List ℕ} (l : Layout) (p : Part) {b : CodeBuilder} {w : List ℕ}
   both_arm lp end {yes' = yes'} k-yes' d1 d2 d3 d4 d5 d6 =
       record { same = rw (k-yes'.meaning, after_bind, ← d1.same, carry_held, after_then, ← d2.same, after_then, ← d3.same, after_then, ← d4.same, after_then, ← d5.same, d6.same); fine = d6.fine; named = λ n. d6.named (d5.named (d4.named (d3.named (d2.named (d1.named n))))) }
 
-  one_arm : {b1 b2 : CodeBuilder} {w1 w2 : List ℕ} →
+  one_arm : {b1 b2 : BuilderState} {w1 w2 : List ℕ} →
       (lp : Loop) →
       (end : ℕ) →
       {yes' : Part} → IsKid F l p 1 yes' →
@@ -284,14 +284,14 @@ module _ {F : List ℕ} (l : Layout) (p : Part) {b : CodeBuilder} {w : List ℕ}
   one_arm lp end {yes' = yes'} k-yes' d1 d2 =
       record { same = rw (k-yes'.meaning, after_then, ← d1.same, d2.same); fine = d2.fine; named = λ n. d2.named (d1.named n) }
 
-  pub void_arm : {b1 b2 : CodeBuilder} {w1 w2 : List ℕ} →
+  pub void_arm : {b1 b2 : BuilderState} {w1 w2 : List ℕ} →
       Does F ((kid_at F p 0).gen_expr true) b w tt b1 w1 →
       Does F (truncate_stack b.size) b1 w1 tt b2 w2 →
       Does F (discarded (kid_at F p 0)) b w tt b2 w2
   void_arm d1 d2 =
       record { same = rw (after_size, after_then, ← d1.same, d2.same); fine = d2.fine; named = λ n. d2.named (d1.named n) }
 
-  pub trivial_arm : {b1 b2 : CodeBuilder} {w1 w2 : List ℕ} →
+  pub trivial_arm : {b1 b2 : BuilderState} {w1 w2 : List ℕ} →
       (lp : Loop) →
       (o : Op) →
       Does F (each_of Expr lp 0 0 (meanings_at F p)) b w tt b1 w1 →
@@ -301,7 +301,7 @@ module _ {F : List ℕ} (l : Layout) (p : Part) {b : CodeBuilder} {w : List ℕ}
       let e1 = same_does (exprs (meanings_at F p)) (each_of Expr lp 0 0 (meanings_at F p)) (exprs_each lp 0 0 (meanings_at F p)) d1 in
       record { same = rw (after_then, ← e1.same, d2.same); fine = d2.fine; named = λ n. d2.named (d1.named n) }
 
-  pub trivial_not_arm : {b1 b2 b3 : CodeBuilder} {w1 w2 w3 : List ℕ} →
+  pub trivial_not_arm : {b1 b2 b3 : BuilderState} {w1 w2 w3 : List ℕ} →
       (lp : Loop) →
       (o : Op) →
       Does F (each_of Expr lp 0 0 (meanings_at F p)) b w tt b1 w1 →
@@ -312,7 +312,7 @@ module _ {F : List ℕ} (l : Layout) (p : Part) {b : CodeBuilder} {w : List ℕ}
       let e1 = same_does (exprs (meanings_at F p)) (each_of Expr lp 0 0 (meanings_at F p)) (exprs_each lp 0 0 (meanings_at F p)) d1 in
       record { same = rw (after_then, after_then, ← e1.same, ← d2.same, d3.same); fine = d3.fine; named = λ n. d3.named (d2.named (d1.named n)) }
 
-  pub assign_arm : {b1 b2 b3 : CodeBuilder} {w1 w2 w3 : List ℕ} →
+  pub assign_arm : {b1 b2 b3 : BuilderState} {w1 w2 w3 : List ℕ} →
       (discard : Bool) →
       {left : Part} → IsKid F l p 1 left →
       {a : Access} →
@@ -323,7 +323,7 @@ module _ {F : List ℕ} (l : Layout) (p : Part) {b : CodeBuilder} {w : List ℕ}
   assign_arm discard {left = left} k-left d1 d2 d3 =
       record { same = rw (k-left.meaning, after_bind, ← d1.same, carry_held, after_then, ← d2.same, d3.same); fine = d3.fine; named = λ n. d3.named (d2.named (d1.named n)) }
 
-  pub and_arm : {b1 b2 b3 b4 b5 b6 b7 b8 : CodeBuilder} {w2 w3 w4 w5 w6 w7 w8 : List ℕ} →
+  pub and_arm : {b1 b2 b3 b4 b5 b6 b7 b8 : BuilderState} {w2 w3 w4 w5 w6 w7 w8 : List ℕ} →
       {left : Part} → IsKid F l p 1 left →
       (discard : Bool) →
       Does F (create_label) b w b.labels b1 w →
@@ -338,7 +338,7 @@ module _ {F : List ℕ} (l : Layout) (p : Part) {b : CodeBuilder} {w : List ℕ}
   and_arm {left = left} k-left discard d1 d2 d3 d4 d5 d6 d7 d8 =
       record { same = rw (k-left.meaning, after_bind, ← d1.same, carry_held, after_then, ← d2.same, after_then, ← d3.same, after_then, ← d4.same, after_then, ← d5.same, after_then, ← d6.same, after_then, ← d7.same, d8.same); fine = d8.fine; named = λ n. d8.named (d7.named (d6.named (d5.named (d4.named (d3.named (d2.named (d1.named n))))))) }
 
-  pub or_arm : {b1 b2 b3 b4 b5 b6 b7 : CodeBuilder} {w2 w3 w4 w5 w6 w7 : List ℕ} →
+  pub or_arm : {b1 b2 b3 b4 b5 b6 b7 : BuilderState} {w2 w3 w4 w5 w6 w7 : List ℕ} →
       {left : Part} → IsKid F l p 1 left →
       (discard : Bool) →
       Does F (create_label) b w b.labels b1 w →
@@ -352,7 +352,7 @@ module _ {F : List ℕ} (l : Layout) (p : Part) {b : CodeBuilder} {w : List ℕ}
   or_arm {left = left} k-left discard d1 d2 d3 d4 d5 d6 d7 =
       record { same = rw (k-left.meaning, after_bind, ← d1.same, carry_held, after_then, ← d2.same, after_then, ← d3.same, after_then, ← d4.same, after_then, ← d5.same, after_then, ← d6.same, d7.same); fine = d7.fine; named = λ n. d7.named (d6.named (d5.named (d4.named (d3.named (d2.named (d1.named n)))))) }
 
-  pub bit_not_arm : {b1 b2 b3 : CodeBuilder} {w1 w2 w3 : List ℕ} →
+  pub bit_not_arm : {b1 b2 b3 : BuilderState} {w1 w2 w3 : List ℕ} →
       Does F ((kid_at F p 0).gen_expr false) b w tt b1 w1 →
       Does F (push (Float 0x41EF_FFFF_FFE0_0000)) b1 w1 tt b2 w2 →
       Does F (action BitXor) b2 w2 tt b3 w3 →
@@ -360,14 +360,14 @@ module _ {F : List ℕ} (l : Layout) (p : Part) {b : CodeBuilder} {w : List ℕ}
   bit_not_arm d1 d2 d3 =
       record { same = rw (after_then, after_then, ← d1.same, ← d2.same, d3.same); fine = d3.fine; named = λ n. d3.named (d2.named (d1.named n)) }
 
-  pub not_arm : {b1 b2 : CodeBuilder} {w1 w2 : List ℕ} →
+  pub not_arm : {b1 b2 : BuilderState} {w1 w2 : List ℕ} →
       Does F ((kid_at F p 0).gen_expr false) b w tt b1 w1 →
       Does F (action Not) b1 w1 tt b2 w2 →
       Does F (expr (kid_at F p 0) >> action Not) b w tt b2 w2
   not_arm d1 d2 =
       record { same = rw (after_then, ← d1.same, d2.same); fine = d2.fine; named = λ n. d2.named (d1.named n) }
 
-  pub minus_arm : {b1 b2 b3 : CodeBuilder} {w1 w2 w3 : List ℕ} →
+  pub minus_arm : {b1 b2 b3 : BuilderState} {w1 w2 w3 : List ℕ} →
       Does F (push (Integer 0)) b w tt b1 w1 →
       Does F ((kid_at F p 0).gen_expr false) b1 w1 tt b2 w2 →
       Does F (action Subtract) b2 w2 tt b3 w3 →
@@ -375,7 +375,7 @@ module _ {F : List ℕ} (l : Layout) (p : Part) {b : CodeBuilder} {w : List ℕ}
   minus_arm d1 d2 d3 =
       record { same = rw (after_then, after_then, ← d1.same, ← d2.same, d3.same); fine = d3.fine; named = λ n. d3.named (d2.named (d1.named n)) }
 
-  old_arm : {b1 b2 : CodeBuilder} {w1 w2 : List ℕ} →
+  old_arm : {b1 b2 : BuilderState} {w1 w2 : List ℕ} →
       {a : Access} →
       Does F (kid_at F p 0).for_expr b w a b1 w1 →
       Does F (get_value a) b1 w1 tt b2 w2 →
@@ -384,7 +384,7 @@ module _ {F : List ℕ} (l : Layout) (p : Part) {b : CodeBuilder} {w : List ℕ}
       record { same = rw (after_bind, ← d1.same, carry_held, d2.same); fine = d2.fine; named = λ n. d2.named (d1.named n) }
 
   -- the old value is left, and then as if the value were discarded
-  pub kept_arm : {b1 b2 b3 : CodeBuilder} {w1 w2 w3 : List ℕ} →
+  pub kept_arm : {b1 b2 b3 : BuilderState} {w1 w2 w3 : List ℕ} →
       (o : Op) (affix : Affix) (discard : Bool) {x : Bool} {a : Access} →
       x ≡ (not discard && not (is_prefix affix)) → x ≡ true →
       Does F (kid_at F p 0).for_expr b w a b1 w1 →
@@ -397,7 +397,7 @@ module _ {F : List ℕ} (l : Layout) (p : Part) {b : CodeBuilder} {w : List ℕ}
       let rest = rw (after_then, after_done) at d3.same in
       record { same = rw (k.0, k.1, after_then, ← old.same) rest; fine = d3.fine; named = λ n. d3.named (old.named n) }
 
-  pub adjust_arm : {b2 b3 b4 b5 b6 : CodeBuilder} {w2 w3 w4 w5 w6 : List ℕ} →
+  pub adjust_arm : {b2 b3 b4 b5 b6 : BuilderState} {w2 w3 w4 w5 w6 : List ℕ} →
       (o : Op) (affix : Affix) (discard : Bool) {x : Bool} {a0 a : Access} →
       x ≡ (not discard && not (is_prefix affix)) → x ≡ false →
       Fine b w →
@@ -410,7 +410,7 @@ module _ {F : List ℕ} (l : Layout) (p : Part) {b : CodeBuilder} {w : List ℕ}
   adjust_arm o affix discard e t f d2 d3 d4 d5 d6 =
       record { same = rw (← e, t, after_then, after_done, after_bind, ← d2.same, carry_held, after_bind, ← d3.same, carry_held, after_then, ← d4.same, after_then, ← d5.same, d6.same); fine = d6.fine; named = λ n. d6.named (d5.named (d4.named (d3.named (d2.named n)))) }
 
-  pub delete_arm : {b1 b2 : CodeBuilder} {w1 w2 : List ℕ} →
+  pub delete_arm : {b1 b2 : BuilderState} {w1 w2 : List ℕ} →
       {a : Access} →
       Does F (kid_at F p 0).for_expr b w a b1 w1 →
       Does F (delete a) b1 w1 tt b2 w2 →
@@ -418,7 +418,7 @@ module _ {F : List ℕ} (l : Layout) (p : Part) {b : CodeBuilder} {w : List ℕ}
   delete_arm d1 d2 =
       record { same = rw (after_bind, ← d1.same, carry_held, d2.same); fine = d2.fine; named = λ n. d2.named (d1.named n) }
 
-  pub ternary_arm : {b1 b2 b3 b4 b5 b6 b7 b8 b9 b10 : CodeBuilder} {w3 w4 w5 w6 w7 w8 w9 : List ℕ} →
+  pub ternary_arm : {b1 b2 b3 b4 b5 b6 b7 b8 b9 b10 : BuilderState} {w3 w4 w5 w6 w7 w8 w9 : List ℕ} →
       {condition : Part} → IsKid F l p 2 condition →
       {yes' : Part} → IsKid F l p 1 yes' →
       Does F (create_label) b w b.labels b1 w →
@@ -435,7 +435,7 @@ module _ {F : List ℕ} (l : Layout) (p : Part) {b : CodeBuilder} {w : List ℕ}
   ternary_arm {condition = condition} k-condition {yes' = yes'} k-yes' d1 d2 d3 d4 d5 d6 d7 d8 d9 d10 =
       record { same = rw (k-condition.meaning, k-yes'.meaning, after_bind, ← d1.same, carry_held, after_bind, ← d2.same, carry_held, after_then, ← d3.same, after_then, ← d4.same, after_then, ← d5.same, after_then, ← d6.same, after_then, ← d7.same, after_then, ← d8.same, after_then, ← d9.same, d10.same); fine = d10.fine; named = λ n. d10.named (d9.named (d8.named (d7.named (d6.named (d5.named (d4.named (d3.named (d2.named (d1.named n))))))))) }
 
-  pub array_arm : {b1 b2 : CodeBuilder} {w1 w2 : List ℕ} →
+  pub array_arm : {b1 b2 : BuilderState} {w1 w2 : List ℕ} →
       {es : Part} → IsList F l p 0 es →
       (n : ℕ) → n ≡ width (trees F es) →
       Does F (gen_arguments (meanings_at F es)) b w tt b1 w1 →
@@ -445,7 +445,7 @@ module _ {F : List ℕ} (l : Layout) (p : Part) {b : CodeBuilder} {w : List ℕ}
       let e2 = rw (e, ← width_law (trees F es)) at d2 in
       record { same = rw (k-es.means, after_then, ← d1.same, e2.same); fine = d2.fine; named = λ n. d2.named (d1.named n) }
 
-  pub object_arm : {b1 b2 b3 : CodeBuilder} {w1 w2 w3 : List ℕ} →
+  pub object_arm : {b1 b2 b3 : BuilderState} {w1 w2 w3 : List ℕ} →
       (lp : Loop) →
       {es : Part} → IsList F l p 0 es →
       (n : ℕ) → n ≡ width (trees F es) →
@@ -457,7 +457,7 @@ module _ {F : List ℕ} (l : Layout) (p : Part) {b : CodeBuilder} {w : List ℕ}
       let e1 = same_does (gen_fields (meanings_at F es)) (each_of Field lp 0 0 (meanings_at F es)) (fields_each lp 0 0 (meanings_at F es)) d1 in
       record { same = rw (k-es.means, width_law (trees F es), ← e, after_then, ← e1.same, after_then, ← d2.same, d3.same); fine = d3.fine; named = λ n. d3.named (d2.named (d1.named n)) }
 
-  pub copy_arm : {b1 b2 b3 b4 b5 b6 : CodeBuilder} {w1 w2 w3 w4 w5 w6 : List ℕ} →
+  pub copy_arm : {b1 b2 b3 b4 b5 b6 : BuilderState} {w1 w2 w3 w4 w5 w6 : List ℕ} →
       {source : Part} → IsKid F l p 2 source →
       {target : Part} → IsKid F l p 1 target →
       Does F ((kid_at F source 0).gen_expr false) b w tt b1 w1 →
@@ -470,7 +470,7 @@ module _ {F : List ℕ} (l : Layout) (p : Part) {b : CodeBuilder} {w : List ℕ}
   copy_arm {source = source} k-source {target = target} k-target d1 d2 d3 d4 d5 d6 =
       record { same = rw (k-source.meaning, k-target.meaning, after_then, ← d1.same, after_then, ← d2.same, after_then, ← d3.same, after_then, ← d4.same, after_then, ← d5.same, d6.same); fine = d6.fine; named = λ n. d6.named (d5.named (d4.named (d3.named (d2.named (d1.named n))))) }
 
-  pub goto_label_arm : {b1 b2 : CodeBuilder} {w1 w2 : List ℕ} →
+  pub goto_label_arm : {b1 b2 : BuilderState} {w1 w2 : List ℕ} →
       (s : Str) (play : Bool) →
       Does F (plain_action (GotoLabel s) (up 0)) b w tt b1 w1 →
       Does F (when play (action Play)) b1 w1 tt b2 w2 →
@@ -478,7 +478,7 @@ module _ {F : List ℕ} (l : Layout) (p : Part) {b : CodeBuilder} {w : List ℕ}
   goto_label_arm s play d1 d2 =
       record { same = rw (after_then, ← d1.same, d2.same); fine = d2.fine; named = λ n. d2.named (d1.named n) }
 
-  pub goto_frame_arm : {b1 b2 : CodeBuilder} {w1 w2 : List ℕ} →
+  pub goto_frame_arm : {b1 b2 : BuilderState} {w1 w2 : List ℕ} →
       (v : ℕ) (play : Bool) →
       Does F (plain_action (GotoFrame (frame v)) (up 0)) b w tt b1 w1 →
       Does F (when play (action Play)) b1 w1 tt b2 w2 →
@@ -486,7 +486,7 @@ module _ {F : List ℕ} (l : Layout) (p : Part) {b : CodeBuilder} {w : List ℕ}
   goto_frame_arm v play d1 d2 =
       record { same = rw (after_then, ← d1.same, d2.same); fine = d2.fine; named = λ n. d2.named (d1.named n) }
 
-  pub goto_arm : {b1 b2 : CodeBuilder} {w1 w2 : List ℕ} →
+  pub goto_arm : {b1 b2 : BuilderState} {w1 w2 : List ℕ} →
       (play : Bool) →
       Does F ((kid_at F p 0).gen_expr false) b w tt b1 w1 →
       Does F (plain_action (GotoFrame2 play) (down 1)) b1 w1 tt b2 w2 →
@@ -494,7 +494,7 @@ module _ {F : List ℕ} (l : Layout) (p : Part) {b : CodeBuilder} {w : List ℕ}
   goto_arm play d1 d2 =
       record { same = rw (after_then, ← d1.same, d2.same); fine = d2.fine; named = λ n. d2.named (d1.named n) }
 
-  pub drag_arm : {b1 b2 b3 b4 : CodeBuilder} {w1 w2 w3 w4 : List ℕ} →
+  pub drag_arm : {b1 b2 b3 b4 : BuilderState} {w1 w2 w3 w4 : List ℕ} →
       (lock : Bool) →
       {target : Part} → IsKid F l p 1 target →
       {es : Part} → IsList F l p 0 es →
@@ -507,7 +507,7 @@ module _ {F : List ℕ} (l : Layout) (p : Part) {b : CodeBuilder} {w : List ℕ}
   drag_arm lock {target = target} k-target {es = es} k-es z d1 d2 d3 d4 =
       record { same = rw (k-es.means, none_at F es z, k-target.meaning, after_then, ← d1.same, after_then, ← d2.same, after_then, ← d3.same, d4.same); fine = d4.fine; named = λ n. d4.named (d3.named (d2.named (d1.named n))) }
 
-  pub drag_within_arm : {b1 b2 b3 b4 b5 : CodeBuilder} {w1 w2 w3 w4 w5 : List ℕ} →
+  pub drag_within_arm : {b1 b2 b3 b4 b5 : BuilderState} {w1 w2 w3 w4 w5 : List ℕ} →
       (lp : Loop) →
       (lock : Bool) →
       {target : Part} → IsKid F l p 1 target →
@@ -523,7 +523,7 @@ module _ {F : List ℕ} (l : Layout) (p : Part) {b : CodeBuilder} {w : List ℕ}
       let e1 = same_does (exprs (meanings_at F es)) (each_of Expr lp 0 0 (meanings_at F es)) (exprs_each lp 0 0 (meanings_at F es)) d1 in
       record { same = rw (k-es.means, drag_law k-es.within z (kid_at F p 1) lock, k-target.meaning, after_then, ← e1.same, after_then, ← d2.same, after_then, ← d3.same, after_then, ← d4.same, d5.same); fine = d5.fine; named = λ n. d5.named (d4.named (d3.named (d2.named (d1.named n)))) }
 
-  pub get_property_arm : {b1 b2 b3 : CodeBuilder} {w1 w2 w3 : List ℕ} →
+  pub get_property_arm : {b1 b2 b3 : BuilderState} {w1 w2 w3 : List ℕ} →
       (v : ℕ) →
       Does F ((kid_at F p 0).gen_expr false) b w tt b1 w1 →
       Does F (push (Integer v)) b1 w1 tt b2 w2 →
@@ -532,7 +532,7 @@ module _ {F : List ℕ} (l : Layout) (p : Part) {b : CodeBuilder} {w : List ℕ}
   get_property_arm v d1 d2 d3 =
       record { same = rw (after_then, after_then, ← d1.same, ← d2.same, d3.same); fine = d3.fine; named = λ n. d3.named (d2.named (d1.named n)) }
 
-  pub set_property_arm : {b1 b2 b3 b4 : CodeBuilder} {w1 w2 w3 w4 : List ℕ} →
+  pub set_property_arm : {b1 b2 b3 b4 : BuilderState} {w1 w2 w3 w4 : List ℕ} →
       (v : ℕ) →
       {target : Part} → IsKid F l p 1 target →
       Does F ((kid_at F target 0).gen_expr false) b w tt b1 w1 →
@@ -543,7 +543,7 @@ module _ {F : List ℕ} (l : Layout) (p : Part) {b : CodeBuilder} {w : List ℕ}
   set_property_arm v {target = target} k-target d1 d2 d3 d4 =
       record { same = rw (k-target.meaning, after_then, after_then, after_then, ← d1.same, ← d2.same, ← d3.same, d4.same); fine = d4.fine; named = λ n. d4.named (d3.named (d2.named (d1.named n))) }
 
-  pub trivial_assign_arm : (lp : Loop) (o : Op) (discard : Bool) → {left : Part} → IsKid F l p 1 left → {a : Access} {b1 b2 b3 b4 : CodeBuilder} {w1 w2 w3 w4 : List ℕ} →
+  pub trivial_assign_arm : (lp : Loop) (o : Op) (discard : Bool) → {left : Part} → IsKid F l p 1 left → {a : Access} {b1 b2 b3 b4 : BuilderState} {w1 w2 w3 w4 : List ℕ} →
       Does F (kid_at F left 0).for_expr b w a b1 w1 →
       Does F (each_of Expr lp 0 0 (meanings_at F p)) b1 w1 tt b2 w2 →
       Does F (action o) b2 w2 tt b3 w3 →
@@ -553,7 +553,7 @@ module _ {F : List ℕ} (l : Layout) (p : Part) {b : CodeBuilder} {w : List ℕ}
       let e2 = same_does (exprs (meanings_at F p)) (each_of Expr lp 0 0 (meanings_at F p)) (exprs_each lp 0 0 (meanings_at F p)) d2 in
       record { same = rw (k-left.meaning, after_bind, ← d1.same, carry_held, after_then, after_then, ← e2.same, ← d3.same, d4.same); fine = d4.fine; named = λ n. d4.named (d3.named (d2.named (d1.named n))) }
 
-  pub call_arm : {name es : Part} → IsKid F l p 1 name → IsList F l p 0 es → (n : ℕ) → n ≡ width (trees F es) → {a : Access} {b1 b2 b3 : CodeBuilder} {w1 w2 w3 : List ℕ} →
+  pub call_arm : {name es : Part} → IsKid F l p 1 name → IsList F l p 0 es → (n : ℕ) → n ≡ width (trees F es) → {a : Access} {b1 b2 b3 : BuilderState} {w1 w2 w3 : List ℕ} →
       Does F (gen_arguments (meanings_at F es)) b w tt b1 w1 →
       Does F (kid_at F name 0).for_expr b1 w1 a b2 w2 →
       Does F (call n a) b2 w2 tt b3 w3 →
@@ -562,7 +562,7 @@ module _ {F : List ℕ} (l : Layout) (p : Part) {b : CodeBuilder} {w : List ℕ}
       let e3 = rw (e, ← width_law (trees F es)) at d3 in
       record { same = rw (k-name.meaning, k-es.means, after_then, ← d1.same, after_bind, ← d2.same, carry_held, e3.same); fine = d3.fine; named = λ n. d3.named (d2.named (d1.named n)) }
 
-  pub new_arm : {name es : Part} → IsKid F l p 1 name → IsList F l p 0 es → (n : ℕ) → n ≡ width (trees F es) → {a : Access} {b1 b2 b3 : CodeBuilder} {w1 w2 w3 : List ℕ} →
+  pub new_arm : {name es : Part} → IsKid F l p 1 name → IsList F l p 0 es → (n : ℕ) → n ≡ width (trees F es) → {a : Access} {b1 b2 b3 : BuilderState} {w1 w2 w3 : List ℕ} →
       Does F (gen_arguments (meanings_at F es)) b w tt b1 w1 →
       Does F (kid_at F name 0).for_expr b1 w1 a b2 w2 →
       Does F (call_new n a) b2 w2 tt b3 w3 →
@@ -572,19 +572,19 @@ module _ {F : List ℕ} (l : Layout) (p : Part) {b : CodeBuilder} {w : List ℕ}
       record { same = rw (k-name.meaning, k-es.means, after_then, ← d1.same, after_bind, ← d2.same, carry_held, e3.same); fine = d3.fine; named = λ n. d3.named (d2.named (d1.named n)) }
 
   -- an access that is generated as an expression, or as an object and its field
-  pub direct_arm : {b1 : CodeBuilder} {w1 : List ℕ} → (m : Step) → Does F m b w tt b1 w1 → Fine b1 w1 → Does F (m gives Direct) b w Direct b1 w1
+  pub direct_arm : {b1 : BuilderState} {w1 : List ℕ} → (m : Step) → Does F m b w tt b1 w1 → Fine b1 w1 → Does F (m gives Direct) b w Direct b1 w1
   direct_arm m d f = let r = returned {F = F} {a = Direct} f in record { same = rw (after_then, ← d.same, r.same); fine = d.fine; named = d.named }
 
-  pub object_access_arm : (lp : Loop) {b1 : CodeBuilder} {w1 : List ℕ} → Does F (each_of Expr lp 0 0 (meanings_at F p)) b w tt b1 w1 → Does F (exprs (meanings_at F p) gives Object) b w Object b1 w1
+  pub object_access_arm : (lp : Loop) {b1 : BuilderState} {w1 : List ℕ} → Does F (each_of Expr lp 0 0 (meanings_at F p)) b w tt b1 w1 → Does F (exprs (meanings_at F p) gives Object) b w Object b1 w1
   object_access_arm lp d =
       let e = same_does (exprs (meanings_at F p)) (each_of Expr lp 0 0 (meanings_at F p)) (exprs_each lp 0 0 (meanings_at F p)) d in
       let r = returned {F = F} {a = Object} d.fine in
       record { same = rw (after_then, ← e.same, r.same); fine = d.fine; named = d.named }
 
 -- constructs that end in others
-module _ {F : List ℕ} (l : Layout) (p : Part) {b : CodeBuilder} {w : List ℕ} where
+module _ {F : List ℕ} (l : Layout) (p : Part) {b : BuilderState} {w : List ℕ} where
   -- a switch that has a Case or a Default
-  pub switch_cases_arm : {b1 b2 b3 b4 b5 b6 : CodeBuilder} {w3 w4 w5 w6 : List ℕ} →
+  pub switch_cases_arm : {b1 b2 b3 b4 b5 b6 : BuilderState} {w3 w4 w5 w6 : List ℕ} →
       (lp inner : Loop) (default n : ℕ) →
       {es : Part} → IsList F l p 0 es →
       Switching F p b.labels b1.labels default n →
@@ -600,7 +600,7 @@ module _ {F : List ℕ} (l : Layout) (p : Part) {b : CodeBuilder} {w : List ℕ}
   switch_cases_arm {b1 = b1} lp inner default n k-es s i h d1 d2 d3 d4 d5 d6 =
       switch_arm l p lp d1 d2 (rw h (cases_arm l p lp inner b.labels b1.labels default n k-es s i d3 d4 d5 d6))
 
-  pub if_both_arm : {b1 b2 b3 b4 b5 b6 b7 b8 b9 b10 : CodeBuilder} {w2 w3 w5 w6 w7 w8 w9 w10 : List ℕ} →
+  pub if_both_arm : {b1 b2 b3 b4 b5 b6 b7 b8 b9 b10 : BuilderState} {w2 w3 w5 w6 w7 w8 w9 w10 : List ℕ} →
       (lp : Loop) →
       {condition : Part} → IsKid F l p 2 condition →
       {yes' : Part} → IsKid F l p 1 yes' →
@@ -620,7 +620,7 @@ module _ {F : List ℕ} (l : Layout) (p : Part) {b : CodeBuilder} {w : List ℕ}
       let branches = both_arm l p lp b.labels k-yes' d4 d5 d6 d7 d8 d9 in
       if_arm l p lp k-condition d1 d2 d3 (rw e branches) d10
 
-  pub if_one_arm : {b1 b2 b3 b4 b5 b6 : CodeBuilder} {w2 w3 w4 w5 w6 : List ℕ} →
+  pub if_one_arm : {b1 b2 b3 b4 b5 b6 : BuilderState} {w2 w3 w4 w5 w6 : List ℕ} →
       (lp : Loop) →
       {condition : Part} → IsKid F l p 2 condition →
       {yes' : Part} → IsKid F l p 1 yes' →

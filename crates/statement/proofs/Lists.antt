@@ -12,7 +12,7 @@ use Rattle.script_records.specs.declared.part.Part.{Part}
 use Rattle.script_records.specs.Layout.{layout_of, string_at}
 use Rattle.lowering.specs.Meaning.{Loop, element}
 use Rattle.lowering.specs.Statement.{meanings}
-use Rattle.codegen_state.specs.declared.CodeBuilder.{CodeBuilder}
+use Rattle.codegen_state.specs.declared.BuilderState.{BuilderState}
 use Rattle.codegen_state.specs.View.{held, after}
 use Rattle.codegen_state.specs.Does.{Fine, Named, Does}
 use Rattle.codegen_state.proofs.Steps.{after_then, after_done, stays}
@@ -69,7 +69,7 @@ cases_few F p = rw (labels_is (trees F p), cases_is (trees F p)) (cases_less F p
 
 -- the loop: the trees before `done` are done, and the ends of the others are in x
 module _ (F : List ℕ) (l : Layout) (e : Each) (lp : Loop) (f d : ℕ) where
-  pub record PopInv (w0 x0 : List ℕ) (last lo : ℕ) (b0 : CodeBuilder) (w x : List ℕ) (top : ℕ) (b : CodeBuilder) (seen cases : ℕ) : Type 0 where
+  pub record PopInv (w0 x0 : List ℕ) (last lo : ℕ) (b0 : BuilderState) (w x : List ℕ) (top : ℕ) (b : BuilderState) (seen cases : ℕ) : Type 0 where
     pub done : ℕ
     pub same : held F (tt {0}) b w ≡ after (held F (tt {0}) b0 w0) (each_of e lp f d (meanings_at F (upto lo done)))
     pub fine : Fine b w
@@ -83,7 +83,7 @@ module _ (F : List ℕ) (l : Layout) (e : Each) (lp : Loop) (f d : ℕ) where
     pub wide : last - lo ≤ length x0
 
   -- after a refusal nothing more is done, whatever trees are left
-  module _ (lo : ℕ) (x : List ℕ) (b0 : CodeBuilder) (w0 : List ℕ) {b : CodeBuilder} {w : List ℕ} (h : b.refused ≡ 0 → ⊥) (fine : Fine b w) where
+  module _ (lo : ℕ) (x : List ℕ) (b0 : BuilderState) (w0 : List ℕ) {b : BuilderState} {w : List ℕ} (h : b.refused ≡ 0 → ⊥) (fine : Fine b w) where
     abbrev Upto : ℕ → Type 0
     Upto q = held F (tt {0}) b w ≡ after (held F (tt {0}) b0 w0) (each_of e lp f d (meanings_at F (upto lo q)))
 
@@ -103,7 +103,7 @@ module _ (F : List ℕ) (l : Layout) (e : Each) (lp : Loop) (f d : ℕ) where
         stopped_kept u (get_or x u 0) last (omega (arith, c.0.up, c.1)) c.4 (over_tree (omega (arith, c.0.up)) c.1 c.3 (over_idle c.0 r))
 
 module _ {F : List ℕ} {l : Layout} {e : Each} {lp : Loop} {f d : ℕ} where
-  pub pop_holds : {x : List ℕ} {last lo top : ℕ} {w : List ℕ} {b : CodeBuilder} → Fine b w → last - lo ≤ length x → Kept F l e lp lo x top lo last → PopInv F l e lp f d w x last lo b w x top b 0 0
+  pub pop_holds : {x : List ℕ} {last lo top : ℕ} {w : List ℕ} {b : BuilderState} → Fine b w → last - lo ≤ length x → Kept F l e lp lo x top lo last → PopInv F l e lp f d w x last lo b w x top b 0 0
   unfolding meanings each_of labels_of_forest cases_of
   pop_holds {lo = lo} {w = w} {b = b} fine r k =
       let n : lo - lo ≡ 0 = omega arith in
@@ -122,7 +122,7 @@ module _ {F : List ℕ} {l : Layout} {e : Each} {lp : Loop} {f d : ℕ} where
         wide = r;
       }
 
-  module _ {w0 x0 : List ℕ} {last lo : ℕ} {b0 : CodeBuilder} {w x : List ℕ} {top : ℕ} {b : CodeBuilder} {seen cases : ℕ} (i : PopInv F l e lp f d w0 x0 last lo b0 w x top b seen cases) where
+  module _ {w0 x0 : List ℕ} {last lo : ℕ} {b0 : BuilderState} {w x : List ℕ} {top : ℕ} {b : BuilderState} {seen cases : ℕ} (i : PopInv F l e lp f d w0 x0 last lo b0 w x top b seen cases) where
     pub pop_top : 0 < top → Top F l e lp lo x (top - 1) i.done last (get_or x (top - 1) 0)
     pop_top h = kept_top F l e lp lo x top i.done last h i.kept
 
@@ -146,7 +146,7 @@ module _ {F : List ℕ} {l : Layout} {e : Each} {lp : Loop} {f d : ℕ} where
             (omega (arith, i.labels, t.room, t.up, t.idle.up, i.low), omega (arith, i.tests, t.room, t.up, t.idle.up, i.low))
 
     -- the tree that ends at j is done: its node, and what is done with it
-    pop_next : {j : ℕ} {w1 x1 : List ℕ} {b1 : CodeBuilder} {y : Element} {seen1 cases1 : ℕ} → Top F l e lp lo x (top - 1) i.done last j →
+    pop_next : {j : ℕ} {w1 x1 : List ℕ} {b1 : BuilderState} {y : Element} {seen1 cases1 : ℕ} → Top F l e lp lo x (top - 1) i.done last j →
         Does F (one_of e lp f d seen cases (kid_at F (upto lo j) 0) (list_at F (upto lo j) 0)) b w tt b1 w1 →
         y ≡ element_of (node_of F l (upto lo j)).root → seen1 ≡ seen + is_labelled (meant y) → cases1 ≡ cases + is_case (meant y) →
         length w1 ≡ length w → length x1 ≡ length x → ((k : ℕ) → k < top - 1 → get_or x k 0 ≡ get_or x1 k 0) →
@@ -171,7 +171,7 @@ module _ {F : List ℕ} {l : Layout} {e : Each} {lp : Loop} {f d : ℕ} where
         }
 
     -- the callee was lent the part of x from top - 1 on, and left `part` there
-    pub pop_again : {w1 : List ℕ} (part : List ℕ) {b1 : CodeBuilder} {y : Element} {seen1 cases1 : ℕ} → (h : 0 < top) →
+    pub pop_again : {w1 : List ℕ} (part : List ℕ) {b1 : BuilderState} {y : Element} {seen1 cases1 : ℕ} → (h : 0 < top) →
         Does F (one_of e lp f d seen cases (kid_at F (upto lo (get_or x (top - 1) 0)) 0) (list_at F (upto lo (get_or x (top - 1) 0)) 0)) b w tt b1 w1 →
         y ≡ element_of (node_of F l (upto lo (get_or x (top - 1) 0))).root → seen1 ≡ seen + is_labelled (meant y) → cases1 ≡ cases + is_case (meant y) →
         length w1 ≡ length w → length part ≡ length (mid_of (top - 1) (length x - (top - 1)) x) →

@@ -16,7 +16,7 @@ use Rattle.lowering.specs.Builder.{Step, ◌>>◌, done, when, action, push, pus
 use Rattle.lowering.specs.Meaning.{Loop, Meaning, param, hoisted, element}
 use Rattle.lowering.specs.Meaning as meaning
 use Rattle.lowering.specs.Statement.{meanings, branch, expr, discarded, exprs, all_discarded, gen_fields, has_case, has_default, default_label, gen_conditionals, gen_elements}
-use Rattle.codegen_state.specs.declared.CodeBuilder.{CodeBuilder}
+use Rattle.codegen_state.specs.declared.BuilderState.{BuilderState}
 use Rattle.codegen_state.specs.View.{Held, after}
 use Rattle.codegen_state.specs.Does.{Does}
 use Rattle.codegen_state.proofs.Steps.{after_then, after_done}
@@ -26,7 +26,7 @@ use Rattle.rows.specs.declared.Each.TheVariants.{Expr, Discarded, Field, Stateme
 use Rattle.rows.specs.Innermost.{Same}
 use Rattle.rows.specs.Rows.{one_case, cases_of, conditional, switch_element, each_of, any_hoisted}
 
-pub same_does : {F : List ℕ} {b r : CodeBuilder} {w w' : List ℕ} (m n : Step) → Same m n → Does F n b w tt r w' → Does F m b w tt r w'
+pub same_does : {F : List ℕ} {b r : BuilderState} {w w' : List ℕ} (m n : Step) → Same m n → Does F n b w tt r w' → Does F m b w tt r w'
 same_does m n e d = record { same = d.same ∙ sym (e _); fine = d.fine; named = d.named }
 
 neither : (a b : Bool) → (a || b) ≡ false → (a ≡ false) × (b ≡ false)

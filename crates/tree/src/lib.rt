@@ -75,12 +75,6 @@ impl From<Record> for Element {
     }
 }
 
-pub fn element_of(root: Record) -> Element
-    ensures { result ≡ element_of root }
-{
-    Element::from(root)
-}
-
 // Of the trees in a row: how many there are, how many of them are Case or Default, how many Case, and how many of the labelled ones stand from the
 // last Default on.
 #[derive(Clone, Copy, Default)]
@@ -296,55 +290,6 @@ fn trees_at<'a>(file: &'a [u8], l: Layout, p: Part) -> Trees<'a>
         },
         part: p,
     }
-}
-
-pub fn rest_of(file: &[u8], l: Layout, p: Part) -> Part
-    requires { Within file.now l p }
-    ensures { result ≡ (node_of file.now l p).before }
-{
-    trees_at(file, l, p).rest().part
-}
-
-pub fn children_of(file: &[u8], l: Layout, p: Part) -> Part
-    requires { Within file.now l p }
-    ensures { result ≡ (node_of file.now l p).children }
-{
-    trees_at(file, l, p).children().part
-}
-
-pub fn kind_at(file: &[u8], l: Layout, p: Part) -> u32
-    requires { Within file.now l p }
-    ensures { result ≡ kind_at file.now l p }
-{
-    trees_at(file, l, p).kind()
-}
-
-pub fn element_at(file: &[u8], l: Layout, p: Part) -> Element
-    requires { Within file.now l p }
-    ensures { result ≡ element_of (node_of file.now l p).root }
-{
-    trees_at(file, l, p).element()
-}
-
-pub fn counts_of(file: &[u8], l: Layout, p: Part) -> Counts
-    requires { Within file.now l p }
-    ensures { result ≡ counts_of (trees file.now p) }
-{
-    trees_at(file, l, p).counts()
-}
-
-pub fn width_of(file: &[u8], l: Layout, p: Part) -> u32
-    requires { Within file.now l p }
-    ensures { result ≡ width (trees file.now p) }
-{
-    trees_at(file, l, p).width()
-}
-
-pub fn kid_at(file: &[u8], l: Layout, p: Part, n: u32) -> Part
-    requires { Within file.now l p }
-    ensures { IsKid file.now l p n result }
-{
-    trees_at(file, l, p).kid(n).part
 }
 
 pub fn list_at(file: &[u8], l: Layout, p: Part, n: u32) -> Part

@@ -1,12 +1,9 @@
-use mathlib.Core.List.{[]}
+use Rattle.builder.proofs.Runs.{keeps_then}
 use Rattle.access.proofs.Accesses.{sets}
 use Rattle.access.proofs.set_and_push.Goals as goal
 
-pub action-b2-requires : goal.action-b2-requires
-action-b2-requires c = (c.store_register-b1.ensures []).fine
-
-pub push-requires : goal.push-requires
-push-requires c = (c.action-b2.ensures []).fine
-
 pub returns : goal.returns
-returns c = λ F. sets F c.args.o (c.store_register-b1.ensures F) (c.action-b2.ensures F) (c.push.ensures F tt)
+returns c = λ F. record {
+  keeps = keeps_then (c.store_register.ensures F).keeps (keeps_then (c.action.ensures F).keeps c.push.ensures.keeps);
+  does = sets F c.args.o (c.store_register.ensures F).does (c.action.ensures F).does (c.push.ensures.runs F tt).does;
+}

@@ -1,14 +1,10 @@
--- `binary_operator` meets its contract: the table is the definition's.
-use mathlib.Core.Path.{refl, sym}
-use lib.ListN.{get_or-eq_default}
+use mathlib.Core.Path.{ap, ◌∙◌}
+use Rattle.std.specs.Prelude.{unwrap_or}
 use Rattle.hir.specs.declared.BinaryOperator.TheVariants as binary
 use Rattle.decode.specs.Decode.{binary_operators}
+use Rattle.script_records.proofs.TableReads.{item_or}
 use Rattle.decode.proofs.binary_operator.Goals as goal
 
-pub returns-then-a-lt43 : goal.returns-then-a-lt43
+pub returns : goal.returns
 unfolding binary_operators
-returns-then-a-lt43 c = refl
-
-pub returns-else-a-lt43 : goal.returns-else-a-lt43
-unfolding binary_operators
-returns-else-a-lt43 c = sym (get_or-eq_default binary_operators binary.Add c.if-a-lt43.false)
+returns c = c.unwrap_or.ensures ∙ (ap (λ o. unwrap_or o binary.Add) c.copied.ensures ∙ item_or binary_operators c.args.a c.get.result binary.Add c.get.ensures.lookup)

@@ -1,9 +1,5 @@
-use Prim.Native.Nat.{◌-◌}
 use Rattle.builder.proofs.FinishWords.{FunctionsInv}
 use Rattle.builder.proofs.finish.function_positions.Given as goal
 
 abbrev pub invariant-loop-i : goal.invariant-loop-i
 invariant-loop-i l = FunctionsInv l.initial.list l.lists l.list l.i l.from
-
-abbrev pub decreases-loop-i : goal.decreases-loop-i
-decreases-loop-i l = l.lists - l.i

@@ -3,6 +3,3 @@ use Rattle.builder.proofs.finish.label_positions.Given as goal
 
 abbrev pub invariant-loop-i : goal.invariant-loop-i
 invariant-loop-i l = PlacesInv l.initial.list l.from l.end l.list l.i l.position l.before
-
-abbrev pub decreases-loop-i : goal.decreases-loop-i
-decreases-loop-i l = l.i

@@ -6,14 +6,14 @@ use Rattle.script_records.proofs.Trees.{tree_less}
 use Rattle.script.proofs.RecordLaws.{all_done, all_not, all_next}
 use Rattle.script.proofs.record_rules.all_of.Goals as goal
 
-pub returns-then-not-is_class : goal.returns-then-not-is_class
-returns-then-not-is_class c = sym (c.loop-part.invariant ∙ all_not (rows_of c.args.file.now c.args.l) c.loop-part.part c.last_tree-t.ensures (omega arith) _ c.is_class.ensures c.if-not-is_class.true)
+pub returns-then-not-has : goal.returns-then-not-has
+returns-then-not-has c = sym (c.loop-part.invariant ∙ all_not (rows_of c.args.script.now.bytes.now c.args.script.now.layout) c.loop-part.part c.last_tree-t.ensures (omega arith) _ c.has.ensures c.if-not-has.true)
 
 pub loop-part-smaller : goal.loop-part-smaller
-loop-part-smaller c = (tree_less (rows_of c.args.file.now c.args.l) c.loop-part.part c.last_tree-t.ensures (omega arith)).1
+loop-part-smaller c = (tree_less (rows_of c.args.script.now.bytes.now c.args.script.now.layout) c.loop-part.part c.last_tree-t.ensures (omega arith)).1
 
 pub loop-part-preserved : goal.loop-part-preserved
-loop-part-preserved c = c.loop-part.invariant ∙ all_next (rows_of c.args.file.now c.args.l) c.loop-part.part c.last_tree-t.ensures (omega arith) _ c.is_class.ensures c.if-not-is_class.false
+loop-part-preserved c = c.loop-part.invariant ∙ all_next (rows_of c.args.script.now.bytes.now c.args.script.now.layout) c.loop-part.part c.last_tree-t.ensures (omega arith) _ c.has.ensures c.if-not-has.false
 
 pub returns : goal.returns
-returns c = sym (c.loop-part.invariant ∙ all_done (rows_of c.args.file.now c.args.l) c.loop-part.part _ c.loop-part-test.false)
+returns c = sym (c.loop-part.invariant ∙ all_done (rows_of c.args.script.now.bytes.now c.args.script.now.layout) c.loop-part.part _ c.loop-part-test.false)

@@ -10,10 +10,10 @@ pub loop-i-init : goal.loop-i-init
 loop-i-init c = upto_zero _ _
 
 pub returns-then-end_at-start_at : goal.returns-then-end_at-start_at
-returns-then-end_at-start_at c = rw (upto_not (test c.args.file.now c.args.l) _ c.loop-i.i c.loop-i-test.true refl (rw (← c.end_at.ensures, ← c.start_at.ensures) (lt-leb _ _ c.if-end_at-start_at.true)))
+returns-then-end_at-start_at c = rw (upto_not (test c.args.script.now.bytes.now c.args.script.now.layout) _ c.loop-i.i c.loop-i-test.true refl (rw (← c.end_at.ensures, ← c.start_at.ensures) (lt-leb _ _ c.if-end_at-start_at.true)))
 
 pub loop-i-preserved : goal.loop-i-preserved
-loop-i-preserved c = upto_next (test c.args.file.now c.args.l) _ c.loop-i.i c.loop-i.invariant (omega arith) refl (rw (← c.end_at.ensures, ← c.start_at.ensures) (le-leb _ _ c.if-end_at-start_at.false))
+loop-i-preserved c = upto_next (test c.args.script.now.bytes.now c.args.script.now.layout) _ c.loop-i.i c.loop-i.invariant (omega arith) refl (rw (← c.end_at.ensures, ← c.start_at.ensures) (le-leb _ _ c.if-end_at-start_at.false))
 
 pub returns : goal.returns
-returns c = rw (upto_all (test c.args.file.now c.args.l) _ c.loop-i.i c.loop-i.invariant (omega arith), c.start_at-2.ensures)
+returns c = rw (upto_all (test c.args.script.now.bytes.now c.args.script.now.layout) _ c.loop-i.i c.loop-i.invariant (omega arith), c.start_at-2.ensures)

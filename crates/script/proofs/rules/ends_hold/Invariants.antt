@@ -1,5 +1,5 @@
 -- The loop's invariant: no end before this one fell.
-use Prim.Native.Nat.{ℕ, ◌-◌}
+use Prim.Native.Nat.{ℕ}
 use mathlib.Core.Bool.{Bool}
 use mathlib.Core.List.{List}
 use lib.Dec.{leb}
@@ -12,7 +12,4 @@ abbrev pub test : List ℕ → Layout → ℕ → Bool
 test F l i = leb (start_at F l i) (end_at F l i)
 
 abbrev pub invariant-loop-i : goal.invariant-loop-i
-invariant-loop-i l = Upto (test l.file l.l) l.n l.i
-
-abbrev pub decreases-loop-i : goal.decreases-loop-i
-decreases-loop-i l = l.n - l.i
+invariant-loop-i l = Upto (test l.script.bytes.now l.script.layout) l.n l.i

@@ -14,11 +14,11 @@ loop-i-init c = upto_zero _ _
 
 pub returns-then-not-is_supported : goal.returns-then-not-is_supported
 unfolding all_supported
-returns-then-not-is_supported c = sym (upto_not (test (rows_of c.args.file.now c.args.l)) c.args.l.count c.loop-i.i (omega arith) (c.is_supported.ensures ∙ ap (λ (r : Row). supported r.kind) c.row_at-r.ensures) c.if-not-is_supported.true)
+returns-then-not-is_supported c = sym (upto_not (test (rows_of c.args.script.now.bytes.now c.args.script.now.layout)) c.args.script.now.layout.count c.loop-i.i (omega arith) (c.is_supported.ensures ∙ ap (λ (r : Row). supported r.kind) c.row_at.ensures) c.if-not-is_supported.true)
 
 pub loop-i-preserved : goal.loop-i-preserved
-loop-i-preserved c = upto_next (test (rows_of c.args.file.now c.args.l)) c.args.l.count c.loop-i.i c.loop-i.invariant (omega arith) (c.is_supported.ensures ∙ ap (λ (r : Row). supported r.kind) c.row_at-r.ensures) c.if-not-is_supported.false
+loop-i-preserved c = upto_next (test (rows_of c.args.script.now.bytes.now c.args.script.now.layout)) c.args.script.now.layout.count c.loop-i.i c.loop-i.invariant (omega arith) (c.is_supported.ensures ∙ ap (λ (r : Row). supported r.kind) c.row_at.ensures) c.if-not-is_supported.false
 
 pub returns : goal.returns
 unfolding all_supported
-returns c = sym (upto_all (test (rows_of c.args.file.now c.args.l)) c.args.l.count c.loop-i.i c.loop-i.invariant (omega arith))
+returns c = sym (upto_all (test (rows_of c.args.script.now.bytes.now c.args.script.now.layout)) c.args.script.now.layout.count c.loop-i.i c.loop-i.invariant (omega arith))

@@ -1,10 +1,9 @@
 -- The loop's invariant: every record before this one is supported.
-use Prim.Native.Nat.{ℕ, ◌-◌}
+use Prim.Native.Nat.{ℕ}
 use mathlib.Core.Bool.{Bool}
 use mathlib.Core.List.{List}
 use Rattle.script_records.specs.declared.layout.Row.{Row}
-use Rattle.script_records.specs.Layout.{rows_of, row_in}
-use Rattle.script_records.specs.Layout.{supported}
+use Rattle.script_records.specs.Layout.{rows_of, row_in, supported}
 use Rattle.script.proofs.RuleLaws.{Upto}
 use Rattle.script.proofs.rules.kinds_supported.Given as goal
 
@@ -12,7 +11,4 @@ abbrev pub test : List Row → ℕ → Bool
 test rs i = supported (row_in rs i).kind
 
 abbrev pub invariant-loop-i : goal.invariant-loop-i
-invariant-loop-i l = Upto (test (rows_of l.file l.l)) l.n l.i
-
-abbrev pub decreases-loop-i : goal.decreases-loop-i
-decreases-loop-i l = l.n - l.i
+invariant-loop-i l = Upto (test (rows_of l.script.bytes.now l.script.layout)) l.script.layout.count l.i

@@ -9,10 +9,10 @@ pub loop-i-init : goal.loop-i-init
 loop-i-init c = upto_zero _ _
 
 pub returns-then-not-record_holds : goal.returns-then-not-record_holds
-returns-then-not-record_holds c = rw (upto_not (record_holds c.args.l.strings (rows_of c.args.file.now c.args.l)) c.args.l.count c.loop-i.i (omega arith) c.record_holds.ensures c.if-not-record_holds.true)
+returns-then-not-record_holds c = rw (upto_not (record_holds c.args.script.now.layout.strings (rows_of c.args.script.now.bytes.now c.args.script.now.layout)) c.args.script.now.layout.count c.loop-i.i (omega arith) c.record_holds.ensures c.if-not-record_holds.true)
 
 pub loop-i-preserved : goal.loop-i-preserved
-loop-i-preserved c = upto_next (record_holds c.args.l.strings (rows_of c.args.file.now c.args.l)) c.args.l.count c.loop-i.i c.loop-i.invariant (omega arith) c.record_holds.ensures c.if-not-record_holds.false
+loop-i-preserved c = upto_next (record_holds c.args.script.now.layout.strings (rows_of c.args.script.now.bytes.now c.args.script.now.layout)) c.args.script.now.layout.count c.loop-i.i c.loop-i.invariant (omega arith) c.record_holds.ensures c.if-not-record_holds.false
 
 pub returns : goal.returns
-returns c = rw (upto_all (record_holds c.args.l.strings (rows_of c.args.file.now c.args.l)) c.args.l.count c.loop-i.i c.loop-i.invariant (omega arith)) c.root_holds.ensures
+returns c = rw (upto_all (record_holds c.args.script.now.layout.strings (rows_of c.args.script.now.bytes.now c.args.script.now.layout)) c.args.script.now.layout.count c.loop-i.i c.loop-i.invariant (omega arith)) c.root_holds.ensures

@@ -6,13 +6,13 @@ use Rattle.script.proofs.RuleLaws.{strings_start, strings_next, strings_not, str
 use Rattle.script.proofs.rules.strings_hold.Goals as goal
 
 pub loop-i-init : goal.loop-i-init
-loop-i-init c = (omega arith, strings_start _ _)
+loop-i-init c = strings_start _ _
 
 pub returns-then-not-is_utf8 : goal.returns-then-not-is_utf8
-returns-then-not-is_utf8 c = sym (c.loop-i.invariant.1 ∙ strings_not _ _ c.loop-i.i _ (omega arith) (c.is_utf8.ensures ∙ ap utf8 c.string.ensures) c.if-not-is_utf8.true)
+returns-then-not-is_utf8 c = sym (c.loop-i.invariant ∙ strings_not _ _ c.loop-i.i _ (omega arith) (c.is_utf8.ensures ∙ ap utf8 c.string.ensures) c.if-not-is_utf8.true)
 
 pub loop-i-preserved : goal.loop-i-preserved
-loop-i-preserved c = (omega arith, c.loop-i.invariant.1 ∙ strings_next _ _ c.loop-i.i _ (omega arith) (c.is_utf8.ensures ∙ ap utf8 c.string.ensures) c.if-not-is_utf8.false)
+loop-i-preserved c = c.loop-i.invariant ∙ strings_next _ _ c.loop-i.i _ (omega arith) (c.is_utf8.ensures ∙ ap utf8 c.string.ensures) c.if-not-is_utf8.false
 
 pub returns : goal.returns
-returns c = sym (c.loop-i.invariant.1 ∙ strings_done _ _ c.loop-i.i _ (omega arith))
+returns c = sym (c.loop-i.invariant ∙ strings_done _ _ c.loop-i.i _ (omega arith))

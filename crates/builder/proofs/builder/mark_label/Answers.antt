@@ -1,6 +1,0 @@
-use Rattle.lowering.specs.Builder as steps
-use Rattle.builder.proofs.builder.mark_label.Goals as goal
-
-pub returns : goal.returns
-unfolding steps.mark_label
-returns c = λ F. c.mark.ensures F
