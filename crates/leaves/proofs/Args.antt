@@ -7,6 +7,7 @@ use native.Mathlib.Omega.{arith}
 use lib.Dec.{T, eqb}
 use lib.ListN.{length}
 use borrow.Author.Tests.{eqb-false}
+use Rattle.std.specs.Prelude.{IsSome}
 use Rattle.hir.specs.declared.ConstantKind.{ConstantKind}
 use Rattle.hir.specs.declared.ExprKind.{ExprKind}
 use Rattle.hir.specs.declared.ExprKind.TheVariants as expr-kind
@@ -89,7 +90,7 @@ module _ {F : List ℕ} {l : Layout} {w0 : List ℕ} {p : Part} {b0 : BuilderSta
   args_less z e = rw e (omega (arith, (is_node F l left i.within refl).apart))
 
   -- after a refusal nothing more is done
-  pub args_stopped : (b.refused ≡ 0 → ⊥) → Does F (gen_arguments (meanings_at F p)) b0 w0 tt b w
+  pub args_stopped : IsSome b.refused → Does F (gen_arguments (meanings_at F p)) b0 w0 tt b w
   args_stopped h = record {
     same = rw (after_then, ← i.same, ← (stays {F = F} {m = exprs_reversed (meanings_at F left)} {a = tt {0}} h i.fine).same) (stays {F = F} h i.fine).same;
     fine = i.fine;

@@ -6,7 +6,11 @@ use Rattle.lowering.specs.Statement.{exprs_reversed}
 use Rattle.codegen_state.specs.declared.BuilderState.{BuilderState}
 use Rattle.codegen_state.specs.View.{Held, held, after}
 use Rattle.codegen_state.specs.Does.{Fine, Named}
+use Rattle.tree.specs.declared.Trees.{Trees}
 use Rattle.tree.specs.Within.{Within, meanings_at}
+use Rattle.tree.specs.Handle.{file_of}
+use Rattle.builder.specs.Runs.{SameList}
+use Rattle.constants.specs.declared.context.ScriptContext.{ScriptContext}
 
 -- of the arguments of p, those in `left` are still to be generated
 pub record Args (F : List ℕ) (l : Layout) (w0 : List ℕ) (p : Part) (b0 : BuilderState) (w : List ℕ) (left : Part) (b : BuilderState) : Type 0 where
@@ -22,3 +26,10 @@ pub record Unchanged (F : List ℕ) (l : Layout) (p left : Part) : Type 0 where
   pub same : (v : Held (Unit {0})) → after v (exprs_reversed (meanings_at F left)) ≡ after v (exprs_reversed (meanings_at F p))
   pub within : Within F l left
   pub fewer : left.n ≤ p.n
+
+-- from one context to another, some arguments of t are generated, and those in `left` are not
+pub record Pushes (t : Trees) (c : ScriptContext) (left : Trees) (r : ScriptContext) : Type 0 where
+  pub trees : left.script ≡ t.script
+  pub script : r.script ≡ c.script
+  pub same_list : SameList c.builder r.builder
+  pub args : Args (file_of t) t.script.layout c.builder.list.now t.part c.builder.state r.builder.list.now left.part r.builder.state

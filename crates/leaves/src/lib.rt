@@ -15,18 +15,19 @@ ghost use Rattle.hir.specs.Tree.{Forest};
 ghost use Rattle.lowering.specs.Meaning.{Meaning, param, hoisted, is_named, shape_of, kid};
 ghost use Rattle.lowering.specs.Statement as statement;
 ghost use Rattle.list_slice.specs.File.{names_string, text_in};
-ghost use Rattle.codegen_state.specs.Does.{Fine, Named, Does};
 ghost use Rattle.tree.specs.Trees.{rec_of, is_labelled, is_case, meant};
 ghost use Rattle.tree.specs.Within.{constant_named, target_named, record_named};
 ghost use Rattle.tree.specs.Handle.{file_of, meanings_of, kid_of, list_of};
+ghost use Rattle.builder.specs.Runs.{Runs};
+ghost use Rattle.constants.specs.Acts.{Acts};
 ghost use Rattle.access.specs.Accesses.{access_of};
 ghost use Rattle.rows.specs.Rows.{label_of, any_hoisted};
-ghost use Rattle.leaves.specs.Args.{Args, Unchanged};
+ghost use Rattle.leaves.specs.Args.{Unchanged, Pushes};
 
-use access::{Access, for_identifier, get_and_set_value, get_value, set_value, small, stop};
-use builder::builder::{action, jump, push, store_register};
-use codegen_state::CodeBuilder;
-use constants::push_string;
+use access::Access;
+use builder::builder::CodeBuilder;
+use codegen_state::Stop;
+use constants::context::ScriptContext;
 use decode::constant;
 use hir::{Affix, ConstantKind, EnumeratorTarget, Record, StatementKind};
 use operators::shape::Shape;
@@ -36,51 +37,34 @@ use script_records::layout::ScriptFile;
 use tree::{Counts, Element, Trees};
 
 // An assignment whose value is discarded, or wanted.
-pub fn assign_value(list: &mut [u32], b: CodeBuilder, discard: bool, access: Access) -> CodeBuilder
-    requires { Fine b list.old }
-    ensures { (F : List ℕ) → Does F (statement.assign_value discard (access_of access)) b list.old tt result list.new }
+pub fn assign_value(builder: &mut CodeBuilder, discard: bool, access: Access)
+    ensures { (F : List ℕ) → Runs F (statement.assign_value discard (access_of access)) builder.old tt builder.new }
 {
     if discard {
-        return set_value(list, b, access);
+        access.set_value(builder);
+    } else {
+        access.get_and_set_value(builder);
     }
-    get_and_set_value(list, b, access)
 }
 
 // A constant as an expression: a literal needs no access.
-pub fn read_constant(
-    script: &ScriptFile,
-    list: &mut [u32],
-    b: CodeBuilder,
-    c: ConstantKind,
-) -> CodeBuilder
-    requires fine { Fine b list.old }
-    requires l_value { script.now.layout ≡ layout_of script.now.bytes.now }
-    requires file_len_bound { length script.now.bytes.now ≤ 1048576 }
-    requires t { T (constant_named script.now.bytes.now c) }
-    requires named { Named script.now.bytes.now b list.old }
-    ensures { let F = script.now.bytes.now in
-        Does F (steps.◌>>=◌ (access.for_constant (constant_over (string_at F (layout_of F)) c)) access.get_value) b list.old tt result list.new }
+pub fn read_constant(context: &mut ScriptContext, c: ConstantKind)
+    requires file_len_bound { length context.old.script.bytes.now ≤ 1048576 }
+    requires t { T (constant_named context.old.script.bytes.now c) }
+    ensures { let F = context.old.script.bytes.now in
+        Acts (steps.◌>>=◌ (access.for_constant (constant_over (string_at F (layout_of F)) c)) access.get_value) context.old tt context.new }
 {
     match c {
-        ConstantKind::String(s) => push_string(script.bytes, script.layout, list, b, s),
+        ConstantKind::String(s) => context.push_string(s),
         ConstantKind::Identifier(s) => {
-            let a = for_identifier(script.bytes, script.layout, list, b, s);
-            let b1 = a.b;
-            let access = a.access;
-            get_value(list, b1, access)
+            let access = Access::for_identifier(context, s);
+            access.get_value(&mut context.builder);
         }
-        ConstantKind::Float(low, high) => push(list, b, PushValue::Float(low, high)),
-        ConstantKind::Integer(n) => push(list, b, PushValue::Integer(n)),
-        ConstantKind::Boolean(x) => push(list, b, PushValue::Boolean(x)),
-        ConstantKind::Register(r) => push(list, b, PushValue::Register(r)),
+        ConstantKind::Float(low, high) => context.builder.push(PushValue::Float(low, high)),
+        ConstantKind::Integer(n) => context.builder.push(PushValue::Integer(n)),
+        ConstantKind::Boolean(x) => context.builder.push(PushValue::Boolean(x)),
+        ConstantKind::Register(r) => context.builder.push(PushValue::Register(r)),
     }
-}
-
-// A builder, and the trees that are still to be generated.
-#[derive(Clone, Copy)]
-pub struct Pushed<'a> {
-    pub b: CodeBuilder,
-    pub left: Trees<'a>,
 }
 
 // The arguments without the Voids among the last, which generate nothing.
@@ -95,99 +79,83 @@ fn without_voids<'a>(t: &Trees<'a>) -> Trees<'a>
     left
 }
 
-// Arguments run from the last to the first: the constants among the last of them are pushed here, without a call for each expression.
-pub fn push_constants<'a>(t: &Trees<'a>, list: &mut [u32], b: CodeBuilder) -> Pushed<'a>
-    requires fine { Fine b list.old }
-    requires named { Named (file_of t.now) b list.old }
-    ensures script { result.left.script ≡ t.now.script }
-    ensures args { Args (file_of t.now) t.now.script.layout list.old t.now.part b list.new result.left.part result.b }
+// Arguments run from the last to the first: the constants among the last of them are pushed here, without a call for each expression. What is left
+// is still to be generated.
+pub fn push_constants<'a>(t: &Trees<'a>, context: &mut ScriptContext) -> Trees<'a>
+    requires { context.old.script ≡ t.now.script }
+    ensures { Pushes t.now context.old result context.new }
 {
     let mut left = without_voids(t);
-    let mut cur = b;
     while !left.is_empty() {
-        if cur.refused != 0 {
-            return Pushed { b: cur, left };
+        if context.builder.state.refused.is_some() {
+            return left;
         }
         let tree = left.script.last_tree(left.part);
         if tree.row.kind != Kind::Constant as u32 {
-            return Pushed { b: cur, left };
+            return left;
         }
-        let c = constant(tree.row);
-        cur = read_constant(&t.script, list, cur, c);
+        read_constant(context, constant(tree.row));
         let before = Trees {
             script: t.script,
             part: tree.before,
         };
         left = without_voids(&before);
     }
-    Pushed { b: cur, left }
+    left
 }
 
 // Break and Continue without a label emit nothing.
-pub fn jump_to(list: &mut [u32], b: CodeBuilder, target: Option<Label>) -> CodeBuilder
-    requires { Fine b list.old }
-    ensures { (F : List ℕ) → Does F (statement.jump_to (label_of target)) b list.old tt result list.new }
+pub fn jump_to(builder: &mut CodeBuilder, target: Option<Label>)
+    ensures { (F : List ℕ) → Runs F (statement.jump_to (label_of target)) builder.old tt builder.new }
 {
-    match target {
-        Some(label) => jump(list, b, label),
-        None => b,
+    if let Some(label) = target {
+        builder.jump(label);
     }
 }
 
 // The variable or register of a loop over an object's names gets register 0.
-pub fn gen_target(
-    script: &ScriptFile,
-    list: &mut [u32],
-    b: CodeBuilder,
-    target: EnumeratorTarget,
-) -> CodeBuilder
-    requires fine { Fine b list.old }
-    requires l_value { script.now.layout ≡ layout_of script.now.bytes.now }
-    requires file_len_bound { length script.now.bytes.now ≤ 1048576 }
-    requires t { T (target_named script.now.bytes.now target) }
-    requires named { Named script.now.bytes.now b list.old }
-    ensures { let F = script.now.bytes.now in
-        Does F (statement.gen_target (target_over (string_at F (layout_of F)) target)) b list.old tt result list.new }
+pub fn gen_target(context: &mut ScriptContext, target: EnumeratorTarget)
+    requires file_len_bound { length context.old.script.bytes.now ≤ 1048576 }
+    requires t { T (target_named context.old.script.bytes.now target) }
+    ensures { let F = context.old.script.bytes.now in
+        Acts (statement.gen_target (target_over (string_at F (layout_of F)) target)) context.old tt context.new }
 {
     match target {
         EnumeratorTarget::Variable { name, declare } => {
             if declare {
-                let b1 = push_string(script.bytes, script.layout, list, b, name);
-                let b2 = push(list, b1, PushValue::Register(0));
-                return action(list, b2, Op::DefineLocal);
+                context.push_string(name);
+                context.builder.push(PushValue::Register(0));
+                context.builder.action(Op::DefineLocal);
+                return;
             }
-            let a = for_identifier(script.bytes, script.layout, list, b, name);
-            let b1 = a.b;
-            let access = a.access;
-            let b2 = push(list, b1, PushValue::Register(0));
-            set_value(list, b2, access)
+            let access = Access::for_identifier(context, name);
+            context.builder.push(PushValue::Register(0));
+            access.set_value(&mut context.builder);
         }
         EnumeratorTarget::Register(r) => {
-            let b1 = push(list, b, PushValue::Register(0));
-            let b2 = store_register(list, b1, r);
-            action(list, b2, Op::Pop)
+            context.builder.push(PushValue::Register(0));
+            context.builder.store_register(r);
+            context.builder.action(Op::Pop);
         }
     }
 }
 
 // -2147483648 has no negative.
-pub fn negate_integer(list: &mut [u32], b: CodeBuilder, n: i32) -> CodeBuilder
-    requires { Fine b list.old }
-    ensures { (F : List ℕ) → Does F (statement.negate_integer (unsigned n) (eqb (unsigned n) 0x8000_0000)) b list.old tt result list.new }
+pub fn negate_integer(builder: &mut CodeBuilder, n: i32)
+    ensures { (F : List ℕ) → Runs F (statement.negate_integer (unsigned n) (eqb (unsigned n) 0x8000_0000)) builder.old tt builder.new }
 {
     match n.checked_neg() {
-        Some(m) => push(list, b, PushValue::Integer(m)),
-        None => stop(b, 7),
+        Some(m) => builder.push(PushValue::Integer(m)),
+        None => builder.refuse(Stop::Negation),
     }
 }
 
 // The sign is the highest bit.
-pub fn negate_float(list: &mut [u32], b: CodeBuilder, low: u32, high: u32) -> CodeBuilder
-    requires { Fine b list.old }
-    ensures { (F : List ℕ) → Does F (steps.push (Float ((low + 0x1_0000_0000 * high + 0x8000_0000_0000_0000) % 0x1_0000_0000_0000_0000))) b list.old tt result list.new }
+pub fn negate_float(builder: &mut CodeBuilder, low: u32, high: u32)
+    ensures { (F : List ℕ) → Runs F (steps.push (Float ((low + 0x1_0000_0000 * high + 0x8000_0000_0000_0000) % 0x1_0000_0000_0000_0000))) builder.old tt builder.new }
 {
     let flipped = high.wrapping_add(0x8000_0000);
-    push(list, b, PushValue::Float(low, flipped))
+    builder.push(PushValue::Float(low, flipped));
 }
 
 // A GotoFrame's number: 0 stays 0, any other is one less, and of that the low 16 bits count.
@@ -197,35 +165,28 @@ pub fn frame_of(n: i32) -> u32
     n.cast_unsigned().saturating_sub(1) % 65536
 }
 
-pub fn play_if(list: &mut [u32], b: CodeBuilder, play: bool) -> CodeBuilder
-    requires { Fine b list.old }
-    ensures { (F : List ℕ) → Does F (when play (steps.action Play)) b list.old tt result list.new }
+pub fn play_if(builder: &mut CodeBuilder, play: bool)
+    ensures { (F : List ℕ) → Runs F (when play (steps.action Play)) builder.old tt builder.new }
 {
     if play {
-        return action(list, b, Op::Play);
+        builder.action(Op::Play);
     }
-    b
 }
 
 // The number of a list's trees.
-pub fn push_count(list: &mut [u32], b: CodeBuilder, n: u32) -> CodeBuilder
-    requires fine { Fine b list.old }
-    requires n_bound { n < 65536 }
-    ensures { (F : List ℕ) → Does F (steps.push (Integer n)) b list.old tt result list.new }
+pub fn push_count(builder: &mut CodeBuilder, n: u32)
+    ensures { (F : List ℕ) → Runs F (steps.push (Integer n)) builder.old tt builder.new }
 {
-    let v = small(n);
-    push(list, b, PushValue::Integer(v))
+    builder.push(PushValue::Integer(n.cast_signed()));
 }
 
 // From the second Case on the target is taken from register 0.
-pub fn push_if(list: &mut [u32], b: CodeBuilder, cases: u32) -> CodeBuilder
-    requires { Fine b list.old }
-    ensures { (F : List ℕ) → Does F (when (ltb 0 cases) (steps.push (Value.Register 0))) b list.old tt result list.new }
+pub fn push_if(builder: &mut CodeBuilder, cases: u32)
+    ensures { (F : List ℕ) → Runs F (when (ltb 0 cases) (steps.push (Value.Register 0))) builder.old tt builder.new }
 {
-    if cases == 0 {
-        return b;
+    if 0 < cases {
+        builder.push(PushValue::Register(0));
     }
-    push(list, b, PushValue::Register(0))
 }
 
 // An object field's key, a parameter's name; any other record has no name, which the list writes as this reference.
