@@ -4,6 +4,7 @@ use mathlib.Core.Path.{◌≡◌, refl, ap, ◌∙◌}
 use mathlib.Core.List.{List}
 use native.Mathlib.Omega.{arith}
 use lib.ListN.{length, get_or, replicate}
+use Rattle.std.specs.Prelude.{None}
 use Rattle.lowering.specs.Builder.{limits01}
 use Rattle.lowering.specs.Statement.{start}
 use Rattle.list_slice.specs.Entry.{entry, entry_of, piece_of}
@@ -30,7 +31,7 @@ abbrev pub begun : BuilderState
 begun = record {
   actions = 1;
   size = 0;
-  refused = 0;
+  refused = None;
   values = 0;
   low = 0;
   top = 4095;

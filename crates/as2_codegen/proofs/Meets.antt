@@ -10,7 +10,7 @@ use lib.Dec.{eqb}
 use lib.ListN.{length}
 use borrow.Author.Tests.{lt-ltb, le-ltb}
 use Rattle.std.specs.Prelude as code
-use Rattle.std.specs.Prelude.{Ok, Err, IsErrAnd}
+use Rattle.std.specs.Prelude.{Ok, Err, IsErrAnd, IsNone, IsSome}
 use Rattle.refusal.specs.declared.Refusal.{Refusal}
 use Rattle.refusal.specs.declared.Refusal.TheVariants.{BrokenRule, NotUtf8, Unsupported, OverLimit, NotAssignable, SecondDefault, Negation, TooMany, ZeroByte, TooLong, TooFar, ShortOutput, ShortList, NotActions}
 use Rattle.refusal.specs.Refusal.{number_of}
@@ -27,6 +27,7 @@ use Rattle.zeros.proofs.Clearing.{zeros_zeros}
 use Rattle.lowering.proofs.Theorems.{refusal_number}
 use Rattle.definition.specs.Compile.{lists_of, lowered_with, statements_of}
 use Rattle.codegen_state.specs.declared.BuilderState.{BuilderState}
+use Rattle.codegen_state.specs.Stop.{refusal_of}
 use Rattle.codegen_state.specs.View.{state, Waiting, waiting, holds, stopped, held, back, carry, after}
 use Rattle.codegen_state.specs.Does.{Does}
 use Rattle.codegen_state.proofs.Steps.{held_stopped, held_holds}
@@ -39,24 +40,24 @@ use Rattle.as2_codegen.specs.Lowering.{Lowers, Generated}
 
 -- case by case: the lists of the state, or the refusal
 module _ (F : List ℕ) (r : BuilderState) (w : List ℕ) (x : Waiting) where
-  lists_at_lem : (b : Bool) → eqb r.refused 0 ≡ b → (y : Result (Unit {0})) → held F tt r w ≡ back x y → r.refused ≡ 0 → finish y ≡ lists (finished (state F r w))
-  lists_at_lem c z (ok u s) e h =
+  lists_at_lem : (y : Result (Unit {0})) → held F tt r w ≡ back x y → IsNone r.refused → finish y ≡ lists (finished (state F r w))
+  lists_at_lem (ok u s) e h =
       let p : holds tt (state F r w) (waiting r w) ≡ holds u s x = sym (held_holds F tt r w h) ∙ e in
       let q : state F r w ≡ s = cc in
       rw q
-  lists_at_lem c z (refused n s) e h =
+  lists_at_lem (refused n s) e h =
       let p : holds tt (state F r w) (waiting r w) ≡ stopped n = sym (held_holds F tt r w h) ∙ e in
       let q : ◌≡◌ {A = ℕ} 0 1 = cc in
       absurd (omega arith)
 
-  refusal_at : (y : Result (Unit {0})) → held F tt r w ≡ back x y → (r.refused ≡ 0 → ⊥) → finish y ≡ refusal r.refused
+  refusal_at : (y : Result (Unit {0})) → held F tt r w ≡ back x y → IsSome r.refused → finish y ≡ refusal (refusal_of r.refused)
   refusal_at (ok u s) e h =
-      let p : stopped r.refused ≡ holds u s x = sym (held_stopped F tt r w h) ∙ e in
+      let p : stopped (refusal_of r.refused) ≡ holds u s x = sym (held_stopped F tt r w h) ∙ e in
       let q : ◌≡◌ {A = ℕ} 0 1 = cc in
       absurd (omega arith)
   refusal_at (refused n s) e h =
-      let p : stopped r.refused ≡ stopped n = sym (held_stopped F tt r w h) ∙ e in
-      let q : r.refused ≡ n = cc in
+      let p : stopped (refusal_of r.refused) ≡ stopped n = sym (held_stopped F tt r w h) ∙ e in
+      let q : refusal_of r.refused ≡ n = cc in
       rw q
 
 refuses : (F : List ℕ) (n : ℕ) (e : Refusal) → lowered_with limits01 F n ≡ refusal (number_of e) → Lowers limits01 F n (Err e) (zeros_of n)
@@ -86,31 +87,31 @@ module _ {F : List ℕ} (accepted : check_of F ≡ 0) {p : Part} (is-part : p �
   unfolding script_to_actions generate_actions
   result = rw (sym (accepted_trees F accepted))
 
-  lists_are : r.refused ≡ 0 → lists_of limits01 F ≡ lists (finished (state F r w'))
-  lists_are h = result ∙ lists_at_lem F r w' (waiting b w) (eqb r.refused 0) refl generated same h
+  lists_are : IsNone r.refused → lists_of limits01 F ≡ lists (finished (state F r w'))
+  lists_are h = result ∙ lists_at_lem F r w' (waiting b w) generated same h
 
-  refusal_is : (r.refused ≡ 0 → ⊥) → lists_of limits01 F ≡ refusal r.refused
+  refusal_is : IsSome r.refused → lists_of limits01 F ≡ refusal (refusal_of r.refused)
   refusal_is h = result ∙ refusal_at F r w' (waiting b w) generated same h
 
-  pub refused_low : (r.refused ≡ 0 → ⊥) → (5 ≤ r.refused) × (r.refused ≤ 8)
-  refused_low h = low r.refused (refusal_number limits01 (lit≤ tt) (statements_of F) r.refused (refusal_is h))
+  pub refused_low : IsSome r.refused → (5 ≤ refusal_of r.refused) × (refusal_of r.refused ≤ 8)
+  refused_low h = low (refusal_of r.refused) (refusal_number limits01 (lit≤ tt) (statements_of F) (refusal_of r.refused) (refusal_is h))
 
-  pub base_is : r.refused ≡ 0 → r.base ≡ 4096
+  pub base_is : IsNone r.refused → r.base ≡ 4096
   base_is h = top_base F (gen_statements no_loop (meanings_at F p)) b r w w' g.base d h
 
   lowered_is : (n : ℕ) → 16384 ≤ n → lowered_with limits01 F n ≡ lists_of limits01 F
   unfolding lowered_with
   lowered_is n room = rw (le-ltb n 16384 room, accepted)
 
-  lowers_lists : r.refused ≡ 0 → (v : List ℕ) → 16384 ≤ length v → Holds limits01 F (finished (state F r w')) v → Lowers limits01 F (length v) (Ok tt) v
+  lowers_lists : IsNone r.refused → (v : List ℕ) → 16384 ≤ length v → Holds limits01 F (finished (state F r w')) v → Lowers limits01 F (length v) (Ok tt) v
   lowers_lists h v room k =
       let e : lowered_with limits01 F (length v) ≡ lists (finished (state F r w')) = lowered_is (length v) room ∙ lists_are h in
       record { answer = (_, e); number = rw e; list_length = refl; whole_list = rw e k }
 
-  pub generated_lists : {w'' : List ℕ} → r.refused ≡ 0 → ((v : List ℕ) → Copied w'' v → Holds limits01 F (finished (state F r w')) v) → Generated F (Ok tt) w''
+  pub generated_lists : {w'' : List ℕ} → IsNone r.refused → ((v : List ℕ) → Copied w'' v → Holds limits01 F (finished (state F r w')) v) → Generated F (Ok tt) w''
   generated_lists h k = λ v c. lowers_lists h v c.room (k v c)
 
-  pub generated_refusal : (w'' : List ℕ) → (r.refused ≡ 0 → ⊥) → {e : Refusal} → number_of e ≡ r.refused → Generated F (Err e) w''
+  pub generated_refusal : (w'' : List ℕ) → IsSome r.refused → {e : Refusal} → number_of e ≡ refusal_of r.refused → Generated F (Err e) w''
   generated_refusal w'' h {e} q = λ n room. refuses F n e (lowered_is n room ∙ refusal_is h ∙ ap refusal (sym q))
 
 -- the refusals before any statement

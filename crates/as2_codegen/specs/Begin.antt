@@ -1,5 +1,5 @@
 -- Where lowering begins: the builder, the words, and the trees of the file that are walked.
-use Rattle.std.specs.Prelude.{ℕ, ◌-◌, ◌≡◌, List}
+use Rattle.std.specs.Prelude.{ℕ, ◌-◌, ◌≡◌, List, IsNone}
 use Rattle.script_records.specs.declared.layout.Layout.{Layout}
 use Rattle.script_records.specs.declared.part.Part.{Part}
 use Rattle.script_records.specs.Layout.{layout_of}
@@ -18,7 +18,7 @@ pub record Begun (F : List ℕ) (b : BuilderState) (w : List ℕ) : Type 0 where
   pub named : Named F b w
   pub starts : state F b w ≡ start limits01
   pub base : b.base ≡ 4096
-  pub unrefused : b.refused ≡ 0
+  pub unrefused : IsNone b.refused
 
 -- the trees of the root list: all records before the root, which is the last
 abbrev pub statements_part : Layout → Part

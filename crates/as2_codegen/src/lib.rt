@@ -7,15 +7,18 @@ ghost use Rattle.script.specs.Rules.{check_of};
 ghost use Rattle.lowering.specs.Builder.{limits01};
 ghost use Rattle.lowering.specs.Statement.{no_loop, gen_statements};
 ghost use Rattle.list_slice.specs.Words.{zeros_of};
-ghost use Rattle.codegen_state.specs.Does.{Does};
+ghost use Rattle.script_records.specs.Layout.{layout_of};
+ghost use Rattle.codegen_state.specs.Stop as stop;
 ghost use Rattle.tree.specs.Handle.{file_of, meanings_of};
-ghost use Rattle.statement.specs.Walk.{Walk};
+ghost use Rattle.statement.specs.Walk.{Walk, Walks};
 ghost use Rattle.as2_codegen.specs.Begin.{Begun, Statements};
 ghost use Rattle.as2_codegen.specs.Lowering.{Lowers, Generated};
 
 use builder::entries::put;
 use builder::finish::into_actions;
-use codegen_state::CodeBuilder;
+use builder::builder::CodeBuilder;
+use codegen_state::{BuilderState, CONSTANT_POOL, MAX_ENTRIES, Stop};
+use constants::context::ScriptContext;
 use refusal::Refusal;
 use rows::no_loop;
 use script_records::layout::{ScriptFile, layout_of};
@@ -37,26 +40,35 @@ struct Accepted<'a> {
 }
 
 // The pool's place is kept, as action 1; `Constants::empty` sets the pool's total to 2.
-fn begin(list: &mut [u32]) -> CodeBuilder
+fn begin<'a>(script: ScriptFile<'a>, list: &'a mut [u32]) -> ScriptContext<'a>
+    requires script_value { script.layout ≡ layout_of script.bytes.now }
     requires in_bounds { 20480 ≤ length list.old }
     requires list_value { list.old ≡ zeros_of (length list.old) }
-    ensures { (F : List ℕ) → Begun F result list.new }
+    ensures list { result.builder.list.ghost_name ≡ list.entry.ghost_name }
+    ensures script { result.script ≡ script.entry }
+    ensures begun { (F : List ℕ) → Begun F result.builder.state result.builder.list.now }
 {
-    put(list, 4095, 0x88, 0, 0);
-    CodeBuilder {
-        actions: 1,
-        size: 0,
-        refused: 0,
-        values: 0,
-        low: 0,
-        top: 4095,
-        base: 4096,
-        labels: 0,
-        marks: 0,
-        constants: 0,
-        total: 2,
-        lists: 0,
-        sizes: 0,
+    put(list, MAX_ENTRIES - 1, CONSTANT_POOL, 0, 0);
+    ScriptContext {
+        script,
+        builder: CodeBuilder {
+            list,
+            state: BuilderState {
+                actions: 1,
+                size: 0,
+                refused: None,
+                values: 0,
+                low: 0,
+                top: MAX_ENTRIES - 1,
+                base: MAX_ENTRIES,
+                labels: 0,
+                marks: 0,
+                constants: 0,
+                total: 2,
+                lists: 0,
+                sizes: 0,
+            },
+        },
     }
 }
 
@@ -79,37 +91,39 @@ fn statements_of(file: &[u8]) -> Accepted
 }
 
 // Few records need little scratch, which takes less time to clear.
-fn with_scratch<const N: usize>(t: &Trees, b: CodeBuilder, list: &mut [u32]) -> CodeBuilder
-    requires walk { Walk t.now b list.old N }
+fn with_scratch<const N: usize>(t: &Trees, context: &mut ScriptContext)
+    requires walk { Walk t.now context.old N }
     requires n_bound { N ≤ 65536 }
-    ensures { Does (file_of t.now) (gen_statements no_loop (meanings_of t.now)) b list.old tt result list.new }
+    ensures { Walks t.now (gen_statements no_loop (meanings_of t.now)) context.old tt context.new }
 {
     let mut scratch = [0usize; N];
-    gen_statements(t, b, list, &mut scratch, no_loop())
+    gen_statements(t, context, &mut scratch, no_loop())
 }
 
-fn generate_actions(t: &Trees, b: CodeBuilder, list: &mut [u32]) -> CodeBuilder
-    requires { Walk t.now b list.old 65536 }
-    ensures { Does (file_of t.now) (gen_statements no_loop (meanings_of t.now)) b list.old tt result list.new }
+fn generate_actions(t: &Trees, context: &mut ScriptContext)
+    requires { Walk t.now context.old 65536 }
+    ensures { Walks t.now (gen_statements no_loop (meanings_of t.now)) context.old tt context.new }
 {
     if 4096 < t.part.n {
-        return with_scratch::<65536>(t, b, list);
+        return with_scratch::<65536>(t, context);
     }
     if 256 < t.part.n {
-        return with_scratch::<4096>(t, b, list);
+        return with_scratch::<4096>(t, context);
     }
-    with_scratch::<256>(t, b, list)
+    with_scratch::<256>(t, context)
 }
 
-fn refusal(number: u32) -> Refusal
-    requires { (5 ≤ number) × (number ≤ 8) }
-    ensures { number_of result ≡ number }
+// No script marks a label twice.
+fn refusal(stop: Stop) -> Refusal
+    requires { stop.number_of stop ≤ 8 }
+    ensures { number_of result ≡ stop.number_of stop }
 {
-    match number {
-        5 => Refusal::NotAssignable,
-        6 => Refusal::SecondDefault,
-        7 => Refusal::Negation,
-        _ => Refusal::TooMany,
+    match stop {
+        Stop::NotAssignable => Refusal::NotAssignable,
+        Stop::SecondDefault => Refusal::SecondDefault,
+        Stop::Negation => Refusal::Negation,
+        Stop::TooMany => Refusal::TooMany,
+        Stop::MarkedTwice => unreachable!(),
     }
 }
 
@@ -119,12 +133,13 @@ fn generate(accepted: &Accepted, words: &mut [u32]) -> Result<(), Refusal>
     requires words_value { words.old ≡ zeros_of (length words.old) }
     ensures { Generated (file_of accepted.now.statements) result words.new }
 {
-    let b = begin(words);
-    let done = generate_actions(&accepted.statements, b, words);
-    if done.refused != 0 {
-        return Err(refusal(done.refused));
+    let mut context = begin(accepted.statements.script, words);
+    generate_actions(&accepted.statements, &mut context);
+    let CodeBuilder { list, state } = context.builder;
+    if let Some(stop) = state.refused {
+        return Err(refusal(stop));
     }
-    into_actions(words, done);
+    into_actions(list, state);
     Ok(())
 }
 

@@ -6,6 +6,7 @@ use native.Mathlib.Omega.{arith}
 use lib.ListN.{length, get_or, take, length-take, get_or-append}
 use lib.Seq.{get_or-take}
 use borrow.Rule.Slice.PartMut.{mid_of, put_mid, same_len_mid}
+use Rattle.std.specs.Prelude.{IsSome}
 use Rattle.hir.specs.Tree.{Forest}
 use Rattle.script_records.specs.declared.layout.Layout.{Layout}
 use Rattle.script_records.specs.declared.part.Part.{Part}
@@ -83,7 +84,7 @@ module _ (F : List ℕ) (l : Layout) (e : Each) (lp : Loop) (f d : ℕ) where
     pub wide : last - lo ≤ length x0
 
   -- after a refusal nothing more is done, whatever trees are left
-  module _ (lo : ℕ) (x : List ℕ) (b0 : BuilderState) (w0 : List ℕ) {b : BuilderState} {w : List ℕ} (h : b.refused ≡ 0 → ⊥) (fine : Fine b w) where
+  module _ (lo : ℕ) (x : List ℕ) (b0 : BuilderState) (w0 : List ℕ) {b : BuilderState} {w : List ℕ} (h : IsSome b.refused) (fine : Fine b w) where
     abbrev Upto : ℕ → Type 0
     Upto q = held F (tt {0}) b w ≡ after (held F (tt {0}) b0 w0) (each_of e lp f d (meanings_at F (upto lo q)))
 
@@ -180,7 +181,7 @@ module _ {F : List ℕ} {l : Layout} {e : Each} {lp : Loop} {f d : ℕ} where
         let z : top - 1 ≤ length x = omega (arith, pop_inside h) in
         pop_next (pop_top h) o u s c q (same_len_mid (top - 1) (length x - (top - 1)) x part r) (λ k a. put_below (top - 1) (length x - (top - 1)) x part k a z)
 
-    pub pop_stopped : (b.refused ≡ 0 → ⊥) → (g : Part) → g.end ≡ last → g.n ≡ last - lo → Does F (each_of e lp f d (meanings_at F g)) b0 w0 tt b w
+    pub pop_stopped : IsSome b.refused → (g : Part) → g.end ≡ last → g.n ≡ last - lo → Does F (each_of e lp f d (meanings_at F g)) b0 w0 tt b w
     pop_stopped h g a c =
         let m : upto lo last ≡ g = sym (part_is g last (last - lo) a c) in
         record { same = rw m at (stopped_kept F l e lp f d lo x b0 w0 h i.fine top i.done last i.low i.kept i.same); fine = i.fine; named = i.named }

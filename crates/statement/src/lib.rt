@@ -2,7 +2,7 @@
 
 // Statements, expressions, accesses and function bodies (`statement.rs`). They call each other in a ring: a call goes to a part of fewer records, or to the
 // same part further down in this order: the constructs, gen_statements, each and args, one, for_expr, gen_expr and gen_statement.
-// Each takes the trees, the last of which (or all of which) it generates, the builder, the list slice, and a scratch slice.
+// Each takes the trees, the last of which (or all of which) it generates, the context, and a scratch slice.
 ghost use Rattle.std.specs.Prelude.{◌≡◌, ◌+◌, ◌≤◌, ◌<◌, T, length};
 ghost use Rattle.pcode.specs.Pcode.{moved};
 ghost use Rattle.script_records.specs.Layout.{layout_of, string_at};
@@ -12,27 +12,19 @@ ghost use Rattle.lowering.specs.Meaning.{literal, shape_of, width};
 ghost use Rattle.lowering.specs.Operators.{plan};
 ghost use Rattle.lowering.specs.Statement as statement;
 ghost use Rattle.list_slice.specs.File.{names_function, header_in};
-ghost use Rattle.codegen_state.specs.Does.{Does};
 ghost use Rattle.tree.specs.Within.{condition_named};
 ghost use Rattle.tree.specs.Handle.{file_of, trees_of, meanings_of, kid_of, list_of};
 ghost use Rattle.access.specs.Accesses.{access_of};
 ghost use Rattle.rows.specs.Rows.{loop_of, each_of, one_of, call_of};
-ghost use Rattle.statement.specs.Walk.{Walk};
+ghost use Rattle.statement.specs.Walk.{Walk, Walks};
 
-use access::{Access, Accessed, call, call_new, delete, for_constant, get_value};
-use builder::builder::{
-    action, action_down, assume_stack_delta, branch, goto_frame, goto_frame2, goto_label, jump,
-    mark_default, mark_label, push, store_register, truncate_stack,
-};
-use builder::context::{create_label, create_labels};
-use builder::function::{begin_function, end_function};
-use codegen_state::CodeBuilder;
-use constants::push_string;
+use access::Access;
+use constants::context::ScriptContext;
 use hir::{Affix, BinaryOperator, ExprKind, ForCondition, Record, StatementKind, UnaryOperator};
 use leaves::{
     assign_value, default_label, frame_of, gen_target, has_hoisted, is_case, is_hoisted,
     is_labelled, jump_to, keeps_old, leaves_none, leaves_value, name_of, negate_float,
-    negate_integer, play_if, push_constants, push_count, push_if, read_constant, word_of,
+    negate_integer, play_if, push_constants, push_count, push_if, read_constant,
 };
 use operators::shape::{Literal, Shape, is_present, literal_of};
 use operators::{Plan, action_of};
@@ -45,50 +37,43 @@ use tree::{Element, Trees};
 
 // Named function expressions that are whole statements come first.
 #[cycle(ring)]
-pub fn gen_statements(
-    t: &Trees,
-    b: CodeBuilder,
-    list: &mut [u32],
-    scratch: &mut [usize],
-    lp: Loop,
-) -> CodeBuilder
-    requires { Walk t.now b list.old (length scratch.old) }
-    ensures { Does (file_of t.now) (statement.gen_statements (loop_of lp) (meanings_of t.now)) b list.old tt result list.new }
+pub fn gen_statements(t: &Trees, context: &mut ScriptContext, scratch: &mut [usize], lp: Loop)
+    requires { Walk t.now context.old (length scratch.old) }
+    ensures { Walks t.now (statement.gen_statements (loop_of lp) (meanings_of t.now)) context.old tt context.new }
 {
     if !has_hoisted(t) {
-        return each(t, b, list, scratch, Each::Statement, lp, 0, 0);
+        each(t, context, scratch, Each::Statement, lp, 0, 0);
+        return;
     }
-    let b1 = each(t, b, list, scratch, Each::Hoisted, lp, 0, 0);
-    each(t, b1, list, scratch, Each::Unhoisted, lp, 0, 0)
+    each(t, context, scratch, Each::Hoisted, lp, 0, 0);
+    each(t, context, scratch, Each::Unhoisted, lp, 0, 0)
 }
 
 // Each tree of a row, the first first. `seen` and `cases` count the trees before with a label, and the cases among them.
 #[cycle(ring)]
 fn each(
     t: &Trees,
-    b: CodeBuilder,
-    list: &mut [u32],
+    context: &mut ScriptContext,
     scratch: &mut [usize],
     what: Each,
     lp: Loop,
     first: u32,
     default: u32,
-) -> CodeBuilder
-    requires walk { Walk t.now b list.old (length scratch.old) }
+)
+    requires walk { Walk t.now context.old (length scratch.old) }
     requires n_bound { first + t.now.part.n < 4294967296 }
-    ensures { Does (file_of t.now) (each_of what (loop_of lp) first default (meanings_of t.now)) b list.old tt result list.new }
+    ensures { Walks t.now (each_of what (loop_of lp) first default (meanings_of t.now)) context.old tt context.new }
 {
-    if b.refused != 0 {
-        return b;
+    if context.builder.state.refused.is_some() {
+        return;
     }
     let start = t.part.end - t.part.n;
     let count = ends_of(t, scratch, what, lp);
-    let mut cur = b;
     let mut seen: u32 = 0;
     let mut cases: u32 = 0;
     for top in (0..count).rev() {
-        if cur.refused != 0 {
-            return cur;
+        if context.builder.state.refused.is_some() {
+            return;
         }
         let end = scratch[top];
         let trees = Trees {
@@ -98,10 +83,9 @@ fn each(
                 n: end - start,
             },
         };
-        cur = one(
+        one(
             &trees,
-            cur,
-            list,
+            context,
             &mut scratch[top..],
             what,
             lp,
@@ -114,14 +98,12 @@ fn each(
         seen += u32::from(is_labelled(e));
         cases += u32::from(is_case(e));
     }
-    cur
 }
 
 #[cycle(ring)]
 fn one(
     t: &Trees,
-    b: CodeBuilder,
-    list: &mut [u32],
+    context: &mut ScriptContext,
     scratch: &mut [usize],
     what: Each,
     lp: Loop,
@@ -129,58 +111,56 @@ fn one(
     default: u32,
     seen: u32,
     cases: u32,
-) -> CodeBuilder
-    requires walk { Walk t.now b list.old (length scratch.old) }
+)
+    requires walk { Walk t.now context.old (length scratch.old) }
     requires seen_bound { first + seen < 4294967296 }
-    ensures { Does (file_of t.now) (one_of what (loop_of lp) first default seen cases (kid_of t.now 0) (list_of t.now 0)) b list.old tt result list.new }
+    ensures { Walks t.now (one_of what (loop_of lp) first default seen cases (kid_of t.now 0) (list_of t.now 0)) context.old tt context.new }
 {
     match what {
-        Each::Expr => gen_expr(t, b, list, scratch, false),
+        Each::Expr => gen_expr(t, context, scratch, false),
         Each::Discarded => {
-            let b1 = gen_expr(t, b, list, scratch, true);
-            truncate_stack(list, b1, b.size)
+            let size = context.builder.state.size;
+            gen_expr(t, context, scratch, true);
+            context.builder.truncate_stack(size);
         }
         Each::Field => {
             let node = t.node();
             let key = name_of(node.root);
-            let b1 = push_string(t.script.bytes, t.script.layout, list, b, key);
-            gen_expr(t, b1, list, scratch, false)
+            context.push_string(key);
+            gen_expr(t, context, scratch, false);
         }
-        Each::Statement => gen_statement(t, b, list, scratch, lp),
+        Each::Statement => gen_statement(t, context, scratch, lp),
         Each::Hoisted => {
             if is_hoisted(t) {
-                return gen_statement(t, b, list, scratch, lp);
+                gen_statement(t, context, scratch, lp);
             }
-            b
         }
         Each::Unhoisted => {
-            if is_hoisted(t) {
-                return b;
+            if !is_hoisted(t) {
+                gen_statement(t, context, scratch, lp);
             }
-            gen_statement(t, b, list, scratch, lp)
         }
         Each::Conditional => {
             let e = t.element();
             match e {
                 Element::Case => {
-                    let b1 = push_if(list, b, cases);
-                    let b2 = gen_expr(t, b1, list, scratch, false);
-                    let b3 = action(list, b2, Op::StrictEquals);
-                    branch(list, b3, Label(first + seen))
+                    push_if(&mut context.builder, cases);
+                    gen_expr(t, context, scratch, false);
+                    context.builder.action(Op::StrictEquals);
+                    context.builder.branch(Label(first + seen));
                 }
-                Element::Default | Element::Statement => b,
+                Element::Default | Element::Statement => {}
             }
         }
         Each::Element => {
             let e = t.element();
             match e {
-                Element::Case => mark_label(list, b, Label(first + seen)),
-                Element::Default => mark_default(list, b, Label(default)),
+                Element::Case => context.builder.mark_label(Label(first + seen)),
+                Element::Default => context.builder.mark_default(Label(default)),
                 Element::Statement => {
-                    if seen == 0 {
-                        return b;
+                    if seen != 0 {
+                        gen_statement(t, context, scratch, lp);
                     }
-                    gen_statement(t, b, list, scratch, lp)
                 }
             }
         }
@@ -188,18 +168,12 @@ fn one(
 }
 
 #[cycle(ring)]
-fn gen_statement(
-    t: &Trees,
-    b: CodeBuilder,
-    list: &mut [u32],
-    scratch: &mut [usize],
-    lp: Loop,
-) -> CodeBuilder
-    requires { Walk t.now b list.old (length scratch.old) }
-    ensures { Does (file_of t.now) ((kid_of t.now 0).gen_statement (loop_of lp)) b list.old tt result list.new }
+fn gen_statement(t: &Trees, context: &mut ScriptContext, scratch: &mut [usize], lp: Loop)
+    requires { Walk t.now context.old (length scratch.old) }
+    ensures { Walks t.now ((kid_of t.now 0).gen_statement (loop_of lp)) context.old tt context.new }
 {
-    if b.refused != 0 {
-        return b;
+    if context.builder.state.refused.is_some() {
+        return;
     }
     let node = t.node();
     let root = node.root;
@@ -208,366 +182,331 @@ fn gen_statement(
         Record::Statement(kind) => match kind {
             StatementKind::Declare(name) => {
                 let value = kids.node();
-                let b1 = push_string(t.script.bytes, t.script.layout, list, b, name);
+                context.push_string(name);
                 if is_present(value.root) {
-                    let b2 = gen_expr(&kids, b1, list, scratch, false);
-                    return action(list, b2, Op::DefineLocal);
+                    gen_expr(&kids, context, scratch, false);
+                    context.builder.action(Op::DefineLocal);
+                    return;
                 }
-                action(list, b1, Op::DefineLocal2)
+                context.builder.action(Op::DefineLocal2);
             }
-            StatementKind::Return => exit(&kids, b, list, scratch, Op::Return),
-            StatementKind::Throw => exit(&kids, b, list, scratch, Op::Throw),
+            StatementKind::Return => exit(&kids, context, scratch, Op::Return),
+            StatementKind::Throw => exit(&kids, context, scratch, Op::Throw),
             StatementKind::Expr => {
-                let b1 = gen_expr(&kids, b, list, scratch, true);
-                truncate_stack(list, b1, b.size)
+                let size = context.builder.state.size;
+                gen_expr(&kids, context, scratch, true);
+                context.builder.truncate_stack(size);
             }
             StatementKind::Block => {
                 let body = kids.list(0);
                 let inner = innermost(&body, lp);
-                let b1 = gen_statements(&inner, b, list, scratch, lp);
-                truncate_stack(list, b1, b.size)
+                let size = context.builder.state.size;
+                gen_statements(&inner, context, scratch, lp);
+                context.builder.truncate_stack(size);
             }
-            StatementKind::ForIn(condition) => gen_for_loop(&kids, b, list, scratch, condition),
-            StatementKind::While => gen_while_loop(&kids, b, list, scratch),
-            StatementKind::If => gen_if(&kids, b, list, scratch, lp),
-            StatementKind::Break => jump_to(list, b, lp.exit),
-            StatementKind::Continue => jump_to(list, b, lp.next),
-            StatementKind::Switch => gen_switch(&kids, b, list, scratch, lp),
+            StatementKind::ForIn(condition) => gen_for_loop(&kids, context, scratch, condition),
+            StatementKind::While => gen_while_loop(&kids, context, scratch),
+            StatementKind::If => gen_if(&kids, context, scratch, lp),
+            StatementKind::Break => jump_to(&mut context.builder, lp.exit),
+            StatementKind::Continue => jump_to(&mut context.builder, lp.next),
+            StatementKind::Switch => gen_switch(&kids, context, scratch, lp),
         },
-        _ => b,
+        _ => {}
     }
 }
 
 // Return and Throw.
 #[cycle(ring)]
-fn exit(t: &Trees, b: CodeBuilder, list: &mut [u32], scratch: &mut [usize], o: Op) -> CodeBuilder
-    requires { Walk t.now b list.old (length scratch.old) }
-    ensures { Does (file_of t.now) (statement.gen_values (list_of t.now 0) o) b list.old tt result list.new }
+fn exit(t: &Trees, context: &mut ScriptContext, scratch: &mut [usize], o: Op)
+    requires { Walk t.now context.old (length scratch.old) }
+    ensures { Walks t.now (statement.gen_values (list_of t.now 0) o) context.old tt context.new }
 {
     let es = t.list(0);
     if es.is_empty() {
-        let b1 = push(list, b, PushValue::Undefined);
-        return action(list, b1, o);
+        context.builder.push(PushValue::Undefined);
+        context.builder.action(o);
+        return;
     }
     let idle = no_loop();
-    let b1 = each(&es, b, list, scratch, Each::Expr, idle, 0, 0);
-    action(list, b1, o)
+    each(&es, context, scratch, Each::Expr, idle, 0, 0);
+    context.builder.action(o)
 }
 
 #[cycle(ring)]
-fn gen_switch(
-    t: &Trees,
-    b: CodeBuilder,
-    list: &mut [u32],
-    scratch: &mut [usize],
-    lp: Loop,
-) -> CodeBuilder
-    requires { Walk t.now b list.old (length scratch.old) }
-    ensures { Does (file_of t.now) (statement.gen_switch (loop_of lp) (kid_of t.now 1) (list_of t.now 0)) b list.old tt result list.new }
+fn gen_switch(t: &Trees, context: &mut ScriptContext, scratch: &mut [usize], lp: Loop)
+    requires { Walk t.now context.old (length scratch.old) }
+    ensures { Walks t.now (statement.gen_switch (loop_of lp) (kid_of t.now 1) (list_of t.now 0)) context.old tt context.new }
 {
     let elements = t.list(0);
     let n = elements.counts();
-    let end = b.labels;
-    let b1 = create_label(b);
-    let first = b1.labels;
-    let b2 = create_labels(b1, n.labels);
-    if b2.refused != 0 {
-        return b2;
+    let end = context.builder.create_label();
+    let first = context.builder.create_labels(n.labels);
+    if context.builder.state.refused.is_some() {
+        return;
     }
     if n.labels == 0 {
-        return b2;
+        return;
     }
-    let default = default_label(end, first, n);
-    let inner = with_exit(lp, end);
+    let default = default_label(end.0, first.0, n);
+    let inner = with_exit(lp, end.0);
     if n.cases == 0 {
-        let b3 = jump(list, b2, Label(default));
-        let b4 = each(
+        context.builder.jump(Label(default));
+        each(
             &elements,
-            b3,
-            list,
+            context,
             scratch,
             Each::Element,
             inner,
-            first,
+            first.0,
             default,
         );
-        return mark_label(list, b4, Label(end));
+        context.builder.mark_label(end);
+        return;
     }
     let target = t.kid(1);
-    let b3 = gen_expr(&target, b2, list, scratch, false);
-    let b4 = store_register(list, b3, 0);
+    gen_expr(&target, context, scratch, false);
+    context.builder.store_register(0);
     let idle = no_loop();
-    let b5 = each(
+    each(
         &elements,
-        b4,
-        list,
+        context,
         scratch,
         Each::Conditional,
         idle,
-        first,
+        first.0,
         0,
     );
-    let b6 = jump(list, b5, Label(default));
-    let b7 = each(
+    context.builder.jump(Label(default));
+    each(
         &elements,
-        b6,
-        list,
+        context,
         scratch,
         Each::Element,
         inner,
-        first,
+        first.0,
         default,
     );
-    mark_label(list, b7, Label(end))
+    context.builder.mark_label(end)
 }
 
 #[cycle(ring)]
-fn gen_while_loop(t: &Trees, b: CodeBuilder, list: &mut [u32], scratch: &mut [usize]) -> CodeBuilder
-    requires { Walk t.now b list.old (length scratch.old) }
-    ensures { Does (file_of t.now) (statement.gen_while_loop (kid_of t.now 1) (kid_of t.now 0)) b list.old tt result list.new }
+fn gen_while_loop(t: &Trees, context: &mut ScriptContext, scratch: &mut [usize])
+    requires { Walk t.now context.old (length scratch.old) }
+    ensures { Walks t.now (statement.gen_while_loop (kid_of t.now 1) (kid_of t.now 0)) context.old tt context.new }
 {
     let condition = t.kid(1);
-    let start = b.labels;
-    let b1 = create_label(b);
-    let end = b1.labels;
-    let b2 = create_label(b1);
-    let b3 = mark_label(list, b2, Label(start));
-    let b4 = gen_expr(&condition, b3, list, scratch, false);
-    let b5 = action(list, b4, Op::Not);
-    let b6 = branch(list, b5, Label(end));
-    let inner = loop_to(end, start);
-    let b7 = gen_statement(t, b6, list, scratch, inner);
-    let b8 = jump(list, b7, Label(start));
-    mark_label(list, b8, Label(end))
+    let start = context.builder.create_label();
+    let end = context.builder.create_label();
+    context.builder.mark_label(start);
+    gen_expr(&condition, context, scratch, false);
+    context.builder.action(Op::Not);
+    context.builder.branch(end);
+    let inner = loop_to(end.0, start.0);
+    gen_statement(t, context, scratch, inner);
+    context.builder.jump(start);
+    context.builder.mark_label(end)
 }
 
 // A Break in `initialize` jumps to the end of the loop. What is absent generates nothing.
 #[cycle(ring)]
 fn gen_for_loop(
     t: &Trees,
-    b: CodeBuilder,
-    list: &mut [u32],
+    context: &mut ScriptContext,
     scratch: &mut [usize],
     condition: ForCondition,
-) -> CodeBuilder
-    requires walk { Walk t.now b list.old (length scratch.old) }
+)
+    requires walk { Walk t.now context.old (length scratch.old) }
     requires named { T (condition_named (file_of t.now) condition) }
-    ensures { Does (file_of t.now) (statement.gen_for_loop (condition_over (string_at (file_of t.now) (layout_of (file_of t.now))) condition) (meanings_of t.now)) b list.old tt result list.new }
+    ensures { Walks t.now (statement.gen_for_loop (condition_over (string_at (file_of t.now) (layout_of (file_of t.now))) condition) (meanings_of t.now)) context.old tt context.new }
 {
-    let end = b.labels;
-    let b1 = create_label(b);
-    let next = b1.labels;
-    let b2 = create_label(b1);
-    let inner = loop_to(end, next);
+    let size = context.builder.state.size;
+    let end = context.builder.create_label();
+    let next = context.builder.create_label();
+    let inner = loop_to(end.0, next.0);
     match condition {
         ForCondition::Enumerate(target) => {
             let object = t.kid(1);
-            let mut cur = gen_expr(&object, b2, list, scratch, false);
-            cur = action(list, cur, Op::Enumerate2);
-            cur = mark_label(list, cur, Label(next));
-            cur = store_register(list, cur, 0);
-            cur = push(list, cur, PushValue::Null);
-            cur = action(list, cur, Op::Equals2);
-            cur = branch(list, cur, Label(end));
-            cur = gen_target(&t.script, list, cur, target);
-            cur = gen_statement(t, cur, list, scratch, inner);
-            cur = jump(list, cur, Label(next));
-            cur = truncate_stack(list, cur, b.size);
-            mark_label(list, cur, Label(end))
+            gen_expr(&object, context, scratch, false);
+            context.builder.action(Op::Enumerate2);
+            context.builder.mark_label(next);
+            context.builder.store_register(0);
+            context.builder.push(PushValue::Null);
+            context.builder.action(Op::Equals2);
+            context.builder.branch(end);
+            gen_target(context, target);
+            gen_statement(t, context, scratch, inner);
+            context.builder.jump(next);
+            context.builder.truncate_stack(size);
+            context.builder.mark_label(end);
         }
         ForCondition::Classic => {
             let initialize = t.kid(3);
             let conditions = t.list(2);
             let update = t.list(1);
-            let b3 = gen_statement(&initialize, b2, list, scratch, inner);
-            let start = b3.labels;
-            let mut cur = create_label(b3);
-            cur = mark_label(list, cur, Label(start));
-            cur = ends(&conditions, cur, list, scratch, end);
-            cur = gen_statement(t, cur, list, scratch, inner);
-            cur = mark_label(list, cur, Label(next));
-            cur = each(&update, cur, list, scratch, Each::Discarded, inner, 0, 0);
-            cur = jump(list, cur, Label(start));
-            cur = truncate_stack(list, cur, b.size);
-            mark_label(list, cur, Label(end))
+            gen_statement(&initialize, context, scratch, inner);
+            let start = context.builder.create_label();
+            context.builder.mark_label(start);
+            ends(&conditions, context, scratch, end);
+            gen_statement(t, context, scratch, inner);
+            context.builder.mark_label(next);
+            each(&update, context, scratch, Each::Discarded, inner, 0, 0);
+            context.builder.jump(start);
+            context.builder.truncate_stack(size);
+            context.builder.mark_label(end);
         }
     }
 }
 
 // The last condition decides.
 #[cycle(ring)]
-fn ends(t: &Trees, b: CodeBuilder, list: &mut [u32], scratch: &mut [usize], end: u32) -> CodeBuilder
-    requires { Walk t.now b list.old (length scratch.old) }
-    ensures { Does (file_of t.now) (statement.gen_condition end (meanings_of t.now)) b list.old tt result list.new }
+fn ends(t: &Trees, context: &mut ScriptContext, scratch: &mut [usize], end: Label)
+    requires { Walk t.now context.old (length scratch.old) }
+    ensures { Walks t.now (statement.gen_condition end.0 (meanings_of t.now)) context.old tt context.new }
 {
     if t.is_empty() {
-        return b;
+        return;
     }
     let before = t.rest();
     let idle = no_loop();
-    let b1 = each(&before, b, list, scratch, Each::Discarded, idle, 0, 0);
-    let b2 = gen_expr(t, b1, list, scratch, false);
-    let b3 = action(list, b2, Op::Not);
-    branch(list, b3, Label(end))
+    each(&before, context, scratch, Each::Discarded, idle, 0, 0);
+    gen_expr(t, context, scratch, false);
+    context.builder.action(Op::Not);
+    context.builder.branch(end)
 }
 
 #[cycle(ring)]
-fn gen_if(
-    t: &Trees,
-    b: CodeBuilder,
-    list: &mut [u32],
-    scratch: &mut [usize],
-    lp: Loop,
-) -> CodeBuilder
-    requires { Walk t.now b list.old (length scratch.old) }
-    ensures { Does (file_of t.now) (statement.gen_if (loop_of lp) (kid_of t.now 2) (kid_of t.now 1) (kid_of t.now 0)) b list.old tt result list.new }
+fn gen_if(t: &Trees, context: &mut ScriptContext, scratch: &mut [usize], lp: Loop)
+    requires { Walk t.now context.old (length scratch.old) }
+    ensures { Walks t.now (statement.gen_if (loop_of lp) (kid_of t.now 2) (kid_of t.now 1) (kid_of t.now 0)) context.old tt context.new }
 {
     let condition = t.kid(2);
     let yes = t.kid(1);
     let node = t.node();
-    let end = b.labels;
-    let b1 = create_label(b);
-    let b2 = gen_expr(&condition, b1, list, scratch, false);
-    let b3 = action(list, b2, Op::Not);
+    let end = context.builder.create_label();
+    gen_expr(&condition, context, scratch, false);
+    context.builder.action(Op::Not);
     if is_present(node.root) {
-        let no = b3.labels;
-        let b4 = create_label(b3);
-        let b5 = branch(list, b4, Label(no));
-        let b6 = gen_statement(&yes, b5, list, scratch, lp);
-        let b7 = jump(list, b6, Label(end));
-        let b8 = mark_label(list, b7, Label(no));
-        let b9 = gen_statement(t, b8, list, scratch, lp);
-        return mark_label(list, b9, Label(end));
+        let no = context.builder.create_label();
+        context.builder.branch(no);
+        gen_statement(&yes, context, scratch, lp);
+        context.builder.jump(end);
+        context.builder.mark_label(no);
+        gen_statement(t, context, scratch, lp);
+        context.builder.mark_label(end);
+        return;
     }
-    let b4 = branch(list, b3, Label(end));
-    let b5 = gen_statement(&yes, b4, list, scratch, lp);
-    mark_label(list, b5, Label(end))
+    context.builder.branch(end);
+    gen_statement(&yes, context, scratch, lp);
+    context.builder.mark_label(end)
 }
 
 #[cycle(ring)]
-fn gen_expr(
-    t: &Trees,
-    b: CodeBuilder,
-    list: &mut [u32],
-    scratch: &mut [usize],
-    discard: bool,
-) -> CodeBuilder
-    requires { Walk t.now b list.old (length scratch.old) }
-    ensures { Does (file_of t.now) ((kid_of t.now 0).gen_expr discard) b list.old tt result list.new }
+fn gen_expr(t: &Trees, context: &mut ScriptContext, scratch: &mut [usize], discard: bool)
+    requires { Walk t.now context.old (length scratch.old) }
+    ensures { Walks t.now ((kid_of t.now 0).gen_expr discard) context.old tt context.new }
 {
-    if b.refused != 0 {
-        return b;
+    if context.builder.state.refused.is_some() {
+        return;
     }
     let node = t.node();
     let root = node.root;
     let kids = node.children;
     match root {
         Record::Expr(kind) => match kind {
-            ExprKind::Constant(c) => read_constant(&t.script, list, b, c),
+            ExprKind::Constant(c) => read_constant(context, c),
             ExprKind::Simple(k) => {
                 let o = action_of(k);
                 let idle = no_loop();
-                let b1 = each(&kids, b, list, scratch, Each::Expr, idle, 0, 0);
-                action(list, b1, o)
+                each(&kids, context, scratch, Each::Expr, idle, 0, 0);
+                context.builder.action(o);
             }
-            ExprKind::Binary(o) => gen_binary_op(&kids, b, list, scratch, discard, o),
-            ExprKind::Unary(o) => gen_unary_op(&kids, b, list, scratch, discard, o),
-            ExprKind::Call => gen_call(&kids, b, list, scratch, false),
-            ExprKind::New => gen_call(&kids, b, list, scratch, true),
+            ExprKind::Binary(o) => gen_binary_op(&kids, context, scratch, discard, o),
+            ExprKind::Unary(o) => gen_unary_op(&kids, context, scratch, discard, o),
+            ExprKind::Call => gen_call(&kids, context, scratch, false),
+            ExprKind::New => gen_call(&kids, context, scratch, true),
             ExprKind::DuplicateMovieClip => {
                 let source = kids.kid(2);
                 let target = kids.kid(1);
-                let b1 = gen_expr(&source, b, list, scratch, false);
-                let b2 = gen_expr(&target, b1, list, scratch, false);
-                let b3 = push(list, b2, PushValue::Integer(16384));
-                let b4 = gen_expr(&kids, b3, list, scratch, false);
-                let b5 = action(list, b4, Op::Add2);
-                action(list, b5, Op::CloneSprite)
+                gen_expr(&source, context, scratch, false);
+                gen_expr(&target, context, scratch, false);
+                context.builder.push(PushValue::Integer(16384));
+                gen_expr(&kids, context, scratch, false);
+                context.builder.action(Op::Add2);
+                context.builder.action(Op::CloneSprite);
             }
-            ExprKind::Ternary => gen_ternary(&kids, b, list, scratch),
+            ExprKind::Ternary => gen_ternary(&kids, context, scratch),
             ExprKind::InitObject => {
                 let es = kids.list(0);
                 let n = es.width();
                 let idle = no_loop();
-                let b1 = each(&es, b, list, scratch, Each::Field, idle, 0, 0);
-                let b2 = push_count(list, b1, n);
-                action_down(list, b2, Op::InitObject, n + n)
+                each(&es, context, scratch, Each::Field, idle, 0, 0);
+                push_count(&mut context.builder, n);
+                context.builder.action_down(Op::InitObject, n + n);
             }
             ExprKind::InitArray => {
                 let es = kids.list(0);
                 let n = es.width();
-                let b1 = args(&es, b, list, scratch, n);
-                action_down(list, b1, Op::InitArray, n)
+                args(&es, context, scratch, n);
+                context.builder.action_down(Op::InitArray, n);
             }
             ExprKind::Field => {
                 let idle = no_loop();
-                let b1 = each(&kids, b, list, scratch, Each::Expr, idle, 0, 0);
-                action(list, b1, Op::GetMember)
+                each(&kids, context, scratch, Each::Expr, idle, 0, 0);
+                context.builder.action(Op::GetMember);
             }
             ExprKind::Delete => {
-                let a = for_expr(&kids, b, list, scratch);
-                let b1 = a.b;
-                let access = a.access;
-                delete(list, b1, access)
+                let access = for_expr(&kids, context, scratch);
+                access.delete(&mut context.builder);
             }
-            ExprKind::Void => b,
+            ExprKind::Void => {}
             ExprKind::Function {
                 name,
                 registers,
                 marks,
             } => {
                 let up = leaves_value(&t.script, name);
-                gen_function(&kids, b, list, scratch, node.number, u32::from(up))
+                gen_function(&kids, context, scratch, node.number, u32::from(up));
             }
-            ExprKind::GotoFrame(play) => goto(&kids, b, list, scratch, play),
-            ExprKind::StartDrag(lock) => drag(&kids, b, list, scratch, lock),
+            ExprKind::GotoFrame(play) => goto(&kids, context, scratch, play),
+            ExprKind::StartDrag(lock) => drag(&kids, context, scratch, lock),
             ExprKind::GetProperty(n) => {
-                let b1 = gen_expr(&kids, b, list, scratch, false);
-                let b2 = push(list, b1, PushValue::Integer(n));
-                action(list, b2, Op::GetProperty)
+                gen_expr(&kids, context, scratch, false);
+                context.builder.push(PushValue::Integer(n));
+                context.builder.action(Op::GetProperty);
             }
             ExprKind::SetProperty(n) => {
                 let target = kids.kid(1);
-                let b1 = gen_expr(&target, b, list, scratch, false);
-                let b2 = push(list, b1, PushValue::Integer(n));
-                let b3 = gen_expr(&kids, b2, list, scratch, false);
-                action(list, b3, Op::SetProperty)
+                gen_expr(&target, context, scratch, false);
+                context.builder.push(PushValue::Integer(n));
+                gen_expr(&kids, context, scratch, false);
+                context.builder.action(Op::SetProperty);
             }
         },
-        Record::Case | Record::ObjectField(_) => gen_expr(&kids, b, list, scratch, discard),
-        _ => b,
+        Record::Case | Record::ObjectField(_) => gen_expr(&kids, context, scratch, discard),
+        _ => {}
     }
 }
 
 #[cycle(ring)]
-fn for_expr(t: &Trees, b: CodeBuilder, list: &mut [u32], scratch: &mut [usize]) -> Accessed
-    requires { Walk t.now b list.old (length scratch.old) }
-    ensures { Does (file_of t.now) (kid_of t.now 0).for_expr b list.old (access_of result.access) result.b list.new }
+fn for_expr(t: &Trees, context: &mut ScriptContext, scratch: &mut [usize]) -> Access
+    requires { Walk t.now context.old (length scratch.old) }
+    ensures { Walks t.now (kid_of t.now 0).for_expr context.old (access_of result) context.new }
 {
-    if b.refused != 0 {
-        return Accessed {
-            b,
-            access: Access::Direct,
-        };
+    if context.builder.state.refused.is_some() {
+        return Access::Direct;
     }
     let node = t.node();
     let kids = node.children;
     match Shape::from(node.root) {
-        Shape::Constant(c) => for_constant(t.script.bytes, t.script.layout, list, b, c),
+        Shape::Constant(c) => Access::for_constant(context, c),
         Shape::Field => {
             let idle = no_loop();
-            let b1 = each(&kids, b, list, scratch, Each::Expr, idle, 0, 0);
-            Accessed {
-                b: b1,
-                access: Access::Object,
-            }
+            each(&kids, context, scratch, Each::Expr, idle, 0, 0);
+            Access::Object
         }
         Shape::NamedFunction | Shape::Other => {
-            let b1 = gen_expr(t, b, list, scratch, false);
-            Accessed {
-                b: b1,
-                access: Access::Direct,
-            }
+            gen_expr(t, context, scratch, false);
+            Access::Direct
         }
     }
 }
@@ -575,64 +514,57 @@ fn for_expr(t: &Trees, b: CodeBuilder, list: &mut [u32], scratch: &mut [usize]) 
 #[cycle(ring)]
 fn gen_binary_op(
     t: &Trees,
-    b: CodeBuilder,
-    list: &mut [u32],
+    context: &mut ScriptContext,
     scratch: &mut [usize],
     discard: bool,
     o: BinaryOperator,
-) -> CodeBuilder
-    requires { Walk t.now b list.old (length scratch.old) }
-    ensures { Does (file_of t.now) (statement.gen_binary_op (plan o) (meanings_of t.now) discard) b list.old tt result list.new }
+)
+    requires { Walk t.now context.old (length scratch.old) }
+    ensures { Walks t.now (statement.gen_binary_op (plan o) (meanings_of t.now) discard) context.old tt context.new }
 {
     let left = t.kid(1);
     match Plan::from(o) {
         Plan::Trivial(o) => {
             let idle = no_loop();
-            let b1 = each(t, b, list, scratch, Each::Expr, idle, 0, 0);
-            action(list, b1, o)
+            each(t, context, scratch, Each::Expr, idle, 0, 0);
+            context.builder.action(o);
         }
         Plan::TrivialNot(o) => {
             let idle = no_loop();
-            let b1 = each(t, b, list, scratch, Each::Expr, idle, 0, 0);
-            let b2 = action(list, b1, o);
-            action(list, b2, Op::Not)
+            each(t, context, scratch, Each::Expr, idle, 0, 0);
+            context.builder.action(o);
+            context.builder.action(Op::Not);
         }
         Plan::TrivialAssign(o) => {
-            let a = for_expr(&left, b, list, scratch);
-            let access = a.access;
-            let b1 = a.b;
+            let access = for_expr(&left, context, scratch);
             let idle = no_loop();
-            let b2 = each(t, b1, list, scratch, Each::Expr, idle, 0, 0);
-            let b3 = action(list, b2, o);
-            assign_value(list, b3, discard, access)
+            each(t, context, scratch, Each::Expr, idle, 0, 0);
+            context.builder.action(o);
+            assign_value(&mut context.builder, discard, access);
         }
         Plan::Assign => {
-            let a = for_expr(&left, b, list, scratch);
-            let access = a.access;
-            let b1 = a.b;
-            let b2 = gen_expr(t, b1, list, scratch, false);
-            assign_value(list, b2, discard, access)
+            let access = for_expr(&left, context, scratch);
+            gen_expr(t, context, scratch, false);
+            assign_value(&mut context.builder, discard, access);
         }
         Plan::LogicalAnd => {
-            let end = b.labels;
-            let b1 = create_label(b);
-            let b2 = gen_expr(&left, b1, list, scratch, false);
-            let b3 = action(list, b2, Op::PushDuplicate);
-            let b4 = action(list, b3, Op::Not);
-            let b5 = branch(list, b4, Label(end));
-            let b6 = action(list, b5, Op::Pop);
-            let b7 = gen_expr(t, b6, list, scratch, false);
-            mark_label(list, b7, Label(end))
+            let end = context.builder.create_label();
+            gen_expr(&left, context, scratch, false);
+            context.builder.action(Op::PushDuplicate);
+            context.builder.action(Op::Not);
+            context.builder.branch(end);
+            context.builder.action(Op::Pop);
+            gen_expr(t, context, scratch, false);
+            context.builder.mark_label(end);
         }
         Plan::LogicalOr => {
-            let end = b.labels;
-            let b1 = create_label(b);
-            let b2 = gen_expr(&left, b1, list, scratch, false);
-            let b3 = action(list, b2, Op::PushDuplicate);
-            let b4 = branch(list, b3, Label(end));
-            let b5 = action(list, b4, Op::Pop);
-            let b6 = gen_expr(t, b5, list, scratch, false);
-            mark_label(list, b6, Label(end))
+            let end = context.builder.create_label();
+            gen_expr(&left, context, scratch, false);
+            context.builder.action(Op::PushDuplicate);
+            context.builder.branch(end);
+            context.builder.action(Op::Pop);
+            gen_expr(t, context, scratch, false);
+            context.builder.mark_label(end);
         }
     }
 }
@@ -640,47 +572,47 @@ fn gen_binary_op(
 #[cycle(ring)]
 fn gen_unary_op(
     t: &Trees,
-    b: CodeBuilder,
-    list: &mut [u32],
+    context: &mut ScriptContext,
     scratch: &mut [usize],
     discard: bool,
     o: UnaryOperator,
-) -> CodeBuilder
-    requires { Walk t.now b list.old (length scratch.old) }
-    ensures { Does (file_of t.now) (statement.gen_unary_op o (kid_of t.now 0) discard) b list.old tt result list.new }
+)
+    requires { Walk t.now context.old (length scratch.old) }
+    ensures { Walks t.now (statement.gen_unary_op o (kid_of t.now 0) discard) context.old tt context.new }
 {
     match o {
         UnaryOperator::Sub => {
             let node = t.node();
             match literal_of(node.root) {
-                Some(Literal::Integer(n)) => negate_integer(list, b, n),
-                Some(Literal::Float(low, high)) => negate_float(list, b, low, high),
+                Some(Literal::Integer(n)) => negate_integer(&mut context.builder, n),
+                Some(Literal::Float(low, high)) => negate_float(&mut context.builder, low, high),
                 Some(Literal::String(_)) => {
-                    let b1 = push(list, b, PushValue::Integer(0));
-                    let b2 = gen_expr(t, b1, list, scratch, false);
-                    action(list, b2, Op::Subtract)
+                    context.builder.push(PushValue::Integer(0));
+                    gen_expr(t, context, scratch, false);
+                    context.builder.action(Op::Subtract);
                 }
                 None => {
-                    let b1 = push(list, b, PushValue::Integer(0));
-                    let b2 = gen_expr(t, b1, list, scratch, false);
-                    action(list, b2, Op::Subtract)
+                    context.builder.push(PushValue::Integer(0));
+                    gen_expr(t, context, scratch, false);
+                    context.builder.action(Op::Subtract);
                 }
             }
         }
-        UnaryOperator::Add => gen_expr(t, b, list, scratch, discard),
+        UnaryOperator::Add => gen_expr(t, context, scratch, discard),
         UnaryOperator::BitNot => {
-            let b1 = gen_expr(t, b, list, scratch, false);
-            let b2 = push(list, b1, PushValue::Float(0xffe0_0000, 0x41ef_ffff));
-            action(list, b2, Op::BitXor)
+            gen_expr(t, context, scratch, false);
+            context
+                .builder
+                .push(PushValue::Float(0xffe0_0000, 0x41ef_ffff));
+            context.builder.action(Op::BitXor);
         }
         UnaryOperator::LogicalNot => {
-            let b1 = gen_expr(t, b, list, scratch, false);
-            action(list, b1, Op::Not)
+            gen_expr(t, context, scratch, false);
+            context.builder.action(Op::Not);
         }
         UnaryOperator::Increment(affix) => adjust(
             t,
-            b,
-            list,
+            context,
             scratch,
             Op::Increment,
             affix,
@@ -688,8 +620,7 @@ fn gen_unary_op(
         ),
         UnaryOperator::Decrement(affix) => adjust(
             t,
-            b,
-            list,
+            context,
             scratch,
             Op::Decrement,
             affix,
@@ -702,183 +633,152 @@ fn gen_unary_op(
 #[cycle(ring)]
 fn adjust(
     t: &Trees,
-    b: CodeBuilder,
-    list: &mut [u32],
+    context: &mut ScriptContext,
     scratch: &mut [usize],
     o: Op,
     affix: Affix,
     discard: bool,
-) -> CodeBuilder
-    requires { Walk t.now b list.old (length scratch.old) }
-    ensures { Does (file_of t.now) (statement.adjust_in_place (kid_of t.now 0) o affix discard) b list.old tt result list.new }
+)
+    requires { Walk t.now context.old (length scratch.old) }
+    ensures { Walks t.now (statement.adjust_in_place (kid_of t.now 0) o affix discard) context.old tt context.new }
 {
     if keeps_old(affix, discard) {
-        let old = for_expr(t, b, list, scratch);
-        let b1 = old.b;
-        let before = old.access;
-        let b2 = get_value(list, b1, before);
-        return adjust(t, b2, list, scratch, o, affix, true);
+        let old = for_expr(t, context, scratch);
+        old.get_value(&mut context.builder);
+        adjust(t, context, scratch, o, affix, true);
+        return;
     }
     let alone = leaves_none(affix, discard);
-    let a = for_expr(t, b, list, scratch);
-    let b1 = a.b;
-    let again = for_expr(t, b1, list, scratch);
-    let b2 = again.b;
-    let access = again.access;
-    let b3 = get_value(list, b2, access);
-    let b4 = action(list, b3, o);
-    assign_value(list, b4, alone, access)
+    for_expr(t, context, scratch);
+    let access = for_expr(t, context, scratch);
+    access.get_value(&mut context.builder);
+    context.builder.action(o);
+    assign_value(&mut context.builder, alone, access)
 }
 
 // The no branch comes first.
 #[cycle(ring)]
-fn gen_ternary(t: &Trees, b: CodeBuilder, list: &mut [u32], scratch: &mut [usize]) -> CodeBuilder
-    requires { Walk t.now b list.old (length scratch.old) }
-    ensures { Does (file_of t.now) (statement.gen_ternary (kid_of t.now 2) (kid_of t.now 1) (kid_of t.now 0)) b list.old tt result list.new }
+fn gen_ternary(t: &Trees, context: &mut ScriptContext, scratch: &mut [usize])
+    requires { Walk t.now context.old (length scratch.old) }
+    ensures { Walks t.now (statement.gen_ternary (kid_of t.now 2) (kid_of t.now 1) (kid_of t.now 0)) context.old tt context.new }
 {
     let condition = t.kid(2);
     let yes = t.kid(1);
-    let end = b.labels;
-    let b1 = create_label(b);
-    let label = b1.labels;
-    let b2 = create_label(b1);
-    let b3 = gen_expr(&condition, b2, list, scratch, false);
-    let b4 = branch(list, b3, Label(label));
-    let b5 = gen_expr(t, b4, list, scratch, false);
-    let b6 = jump(list, b5, Label(end));
-    let b7 = mark_label(list, b6, Label(label));
-    let b8 = gen_expr(&yes, b7, list, scratch, false);
-    let b9 = mark_label(list, b8, Label(end));
-    assume_stack_delta(b9, 1)
+    let end = context.builder.create_label();
+    let label = context.builder.create_label();
+    gen_expr(&condition, context, scratch, false);
+    context.builder.branch(label);
+    gen_expr(t, context, scratch, false);
+    context.builder.jump(end);
+    context.builder.mark_label(label);
+    gen_expr(&yes, context, scratch, false);
+    context.builder.mark_label(end);
+    context.builder.assume_stack_delta(1);
 }
 
 // `gen_call`, and `gen_new`.
 #[cycle(ring)]
-fn gen_call(
-    t: &Trees,
-    b: CodeBuilder,
-    list: &mut [u32],
-    scratch: &mut [usize],
-    new: bool,
-) -> CodeBuilder
-    requires { Walk t.now b list.old (length scratch.old) }
-    ensures { Does (file_of t.now) (call_of new (kid_of t.now 1) (list_of t.now 0)) b list.old tt result list.new }
+fn gen_call(t: &Trees, context: &mut ScriptContext, scratch: &mut [usize], new: bool)
+    requires { Walk t.now context.old (length scratch.old) }
+    ensures { Walks t.now (call_of new (kid_of t.now 1) (list_of t.now 0)) context.old tt context.new }
 {
     let name = t.kid(1);
     let es = t.list(0);
     let n = es.width();
-    let b1 = args(&es, b, list, scratch, n);
-    let a = for_expr(&name, b1, list, scratch);
-    let b2 = a.b;
-    let access = a.access;
+    args(&es, context, scratch, n);
+    let access = for_expr(&name, context, scratch);
     if new {
-        return call_new(list, b2, n, access);
+        access.call_new(&mut context.builder, n);
+    } else {
+        access.call(&mut context.builder, n);
     }
-    call(list, b2, n, access)
 }
 
 // Arguments run from the last to the first, and then their count.
 #[cycle(ring)]
-fn args(t: &Trees, b: CodeBuilder, list: &mut [u32], scratch: &mut [usize], n: u32) -> CodeBuilder
-    requires walk { Walk t.now b list.old (length scratch.old) }
+fn args(t: &Trees, context: &mut ScriptContext, scratch: &mut [usize], n: u32)
+    requires walk { Walk t.now context.old (length scratch.old) }
     requires n_value { n ≡ width (trees_of t.now) }
-    ensures { Does (file_of t.now) (statement.gen_arguments (meanings_of t.now)) b list.old tt result list.new }
+    ensures { Walks t.now (statement.gen_arguments (meanings_of t.now)) context.old tt context.new }
 {
-    let constants = push_constants(t, list, b);
-    let mut left = constants.left;
-    let mut cur = constants.b;
+    let mut left = push_constants(t, context);
     while !left.is_empty() {
-        if cur.refused != 0 {
-            return cur;
+        if context.builder.state.refused.is_some() {
+            return;
         }
-        cur = gen_expr(&left, cur, list, scratch, false);
+        gen_expr(&left, context, scratch, false);
         left = left.rest();
     }
-    push_count(list, cur, n)
+    push_count(&mut context.builder, n)
 }
 
 #[cycle(ring)]
-fn goto(
-    t: &Trees,
-    b: CodeBuilder,
-    list: &mut [u32],
-    scratch: &mut [usize],
-    play: bool,
-) -> CodeBuilder
-    requires { Walk t.now b list.old (length scratch.old) }
-    ensures { Does (file_of t.now) (statement.gen_goto_frame (kid_of t.now 0) play (literal (shape_of (kid_of t.now 0).rec))) b list.old tt result list.new }
+fn goto(t: &Trees, context: &mut ScriptContext, scratch: &mut [usize], play: bool)
+    requires { Walk t.now context.old (length scratch.old) }
+    ensures { Walks t.now (statement.gen_goto_frame (kid_of t.now 0) play (literal (shape_of (kid_of t.now 0).rec))) context.old tt context.new }
 {
     let node = t.node();
     match literal_of(node.root) {
         Some(Literal::String(s)) => {
-            let b1 = goto_label(list, b, s);
-            play_if(list, b1, play)
+            context.builder.goto_label(s);
+            play_if(&mut context.builder, play);
         }
         Some(Literal::Integer(n)) => {
             let frame = frame_of(n);
-            let b1 = goto_frame(list, b, frame);
-            play_if(list, b1, play)
+            context.builder.goto_frame(frame);
+            play_if(&mut context.builder, play);
         }
         Some(Literal::Float(_, _)) => {
-            let b1 = gen_expr(t, b, list, scratch, false);
-            goto_frame2(list, b1, play)
+            gen_expr(t, context, scratch, false);
+            context.builder.goto_frame2(play);
         }
         None => {
-            let b1 = gen_expr(t, b, list, scratch, false);
-            goto_frame2(list, b1, play)
+            gen_expr(t, context, scratch, false);
+            context.builder.goto_frame2(play);
         }
     }
 }
 
 #[cycle(ring)]
-fn drag(
-    t: &Trees,
-    b: CodeBuilder,
-    list: &mut [u32],
-    scratch: &mut [usize],
-    lock: bool,
-) -> CodeBuilder
-    requires { Walk t.now b list.old (length scratch.old) }
-    ensures { Does (file_of t.now) (statement.gen_start_drag (kid_of t.now 1) lock (list_of t.now 0)) b list.old tt result list.new }
+fn drag(t: &Trees, context: &mut ScriptContext, scratch: &mut [usize], lock: bool)
+    requires { Walk t.now context.old (length scratch.old) }
+    ensures { Walks t.now (statement.gen_start_drag (kid_of t.now 1) lock (list_of t.now 0)) context.old tt context.new }
 {
     let target = t.kid(1);
     let es = t.list(0);
     let bit = i32::from(lock);
     if es.is_empty() {
-        let b1 = push(list, b, PushValue::Integer(0));
-        let b2 = push(list, b1, PushValue::Integer(bit));
-        let b3 = gen_expr(&target, b2, list, scratch, false);
-        return action_down(list, b3, Op::StartDrag, 3);
+        context.builder.push(PushValue::Integer(0));
+        context.builder.push(PushValue::Integer(bit));
+        gen_expr(&target, context, scratch, false);
+        context.builder.action_down(Op::StartDrag, 3);
+        return;
     }
     let idle = no_loop();
-    let b1 = each(&es, b, list, scratch, Each::Expr, idle, 0, 0);
-    let b2 = push(list, b1, PushValue::Integer(1));
-    let b3 = push(list, b2, PushValue::Integer(bit));
-    let b4 = gen_expr(&target, b3, list, scratch, false);
-    action_down(list, b4, Op::StartDrag, 7)
+    each(&es, context, scratch, Each::Expr, idle, 0, 0);
+    context.builder.push(PushValue::Integer(1));
+    context.builder.push(PushValue::Integer(bit));
+    gen_expr(&target, context, scratch, false);
+    context.builder.action_down(Op::StartDrag, 7)
 }
 
 // A body starts with no label to break or continue to.
 #[cycle(ring)]
 fn gen_function(
     t: &Trees,
-    b: CodeBuilder,
-    list: &mut [u32],
+    context: &mut ScriptContext,
     scratch: &mut [usize],
     number: usize,
     up: u32,
-) -> CodeBuilder
-    requires walk { Walk t.now b list.old (length scratch.old) }
+)
+    requires walk { Walk t.now context.old (length scratch.old) }
     requires number_bound { number < 65536 }
     requires up_bound { up ≤ 1 }
-    ensures { T (names_function (file_of t.now) number) → moved (define_delta (header_in (file_of t.now) number)) b.size ≡ b.size + up → Does (file_of t.now) (define_function (header_in (file_of t.now) number) (statement.gen_statements statement.no_loop (list_of t.now 0))) b list.old tt result list.new }
+    ensures { T (names_function (file_of t.now) number) → moved (define_delta (header_in (file_of t.now) number)) context.old.builder.state.size ≡ context.old.builder.state.size + up → Walks t.now (define_function (header_in (file_of t.now) number) (statement.gen_statements statement.no_loop (list_of t.now 0))) context.old tt context.new }
 {
     let body = t.list(0);
-    let base = b.base;
-    let size = b.size;
-    let reference = word_of(number);
-    let b1 = begin_function(b);
+    let outer = context.builder.begin_function();
     let idle = no_loop();
-    let b2 = gen_statements(&body, b1, list, scratch, idle);
-    end_function(list, b2, base, size, reference, up)
+    gen_statements(&body, context, scratch, idle);
+    context.builder.end_function(outer, number as u32, up);
 }
