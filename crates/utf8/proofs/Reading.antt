@@ -7,11 +7,17 @@ use mathlib.Core.Option.{Option, none, some, Option-elim, none-ne-some}
 use Prim.Native.Nat.{ℕ, zero, suc, ◌+◌, ◌≤◌, ◌<◌}
 use native.Mathlib.Numerals.{add-one}
 use native.Mathlib.Omega.{arith}
-use lib.Dec.{leb, ltb}
+use lib.Dec.{eqb, leb, ltb}
 use lib.ListN.{length, get_or, drop, drop_of_length-le}
 use lib.Seq.{drop-cons}
 use borrow.Author.Count.{below_none, below_more}
-use borrow.Author.Tests.{leb-true, leb-false, ltb-true, ltb-false, le-leb, lt-leb, le-ltb, lt-ltb}
+use borrow.Author.Tests.{eqb-true, leb-true, leb-false, ltb-true, ltb-false, le-leb, lt-leb, le-ltb, lt-ltb}
+use Rattle.std.specs.Prelude.{map, replicate, ◌%◌, ◌^◌}
+use Rattle.std.proofs.lemmas.Grind.{common_steps}
+use Rattle.std.proofs.lemmas.Simd.{none_from_empty_mask, tops_compared, mask_l-mod, zip2_splat_left}
+use Rattle.std.proofs.lemmas.List.{length-map}
+use mir.Syntax.{w8}
+use lib.Lanes.{zip2, chunk, mask_l, top}
 use Rattle.utf8.specs.Utf8.{Range, ◌to◌, tail, chars, in_range, started, next, completes, utf8}
 use Rattle.utf8.specs.Chars.{from, Ascii, Passed, Ran, Stands, second}
 use Rattle.utf8.proofs.Forms.{by_test, decided, starts, more, opened}
@@ -135,6 +141,17 @@ ascii_none s i = record { each = below_none (λ (k : ℕ). get_or s (i + k) 0 < 
 
 pub ascii_more : {s : List ℕ} {i n : ℕ} → Ascii s i n → get_or s (i + n) 0 < 0x80 → Ascii s i (n + 1)
 ascii_more {s} {i} {n} a b = record { each = below_more (λ (k : ℕ). get_or s (i + k) 0 < 0x80) n a.each b }
+
+-- lanes of which none is 0x80 or more
+abbrev compared : ℕ → ℕ → ℕ
+compared a b = cond (leb a b) 0xFF 0
+
+pub ascii_lanes : (s : List ℕ) (i n : ℕ) → i + n ≤ length s → n ≤ 64 → eqb (mask_l (map (top 7) (zip2 compared (replicate n 0x80) (chunk i n s))) % 2 ^ 64) 0 ≡ true → Ascii s i n
+ascii_lanes s i n h k e =
+    let l : length (chunk i n s) ≡ n = grind (arith, common_steps) in
+    let x : map (top 7) (zip2 compared (replicate n 0x80) (chunk i n s)) ≡ map (leb 0x80) (chunk i n s) = tops_compared w8 leb _ _ ∙ zip2_splat_left leb 0x80 n (chunk i n s) l in
+    let m : mask_l (map (leb 0x80) (chunk i n s)) ≡ 0 = sym (mask_l-mod _ 64 (omega (arith, length-map (chunk i n s) (leb 0x80)))) ∙ rw x at (eqb-true _ 0 e) in
+    record { each = λ j q. leb-false 0x80 _ (none_from_empty_mask (leb 0x80) s i n 0 h m (i + j) (omega arith) (omega arith)) }
 
 pub passed_none : (s : List ℕ) (i : ℕ) → i ≤ length s → Passed s i i
 passed_none s i h = record { onward = omega arith; within = h; same = refl }

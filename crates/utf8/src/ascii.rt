@@ -2,60 +2,28 @@
 ghost use Rattle.std.specs.Prelude.{◌≡◌, true, ◌+◌, ◌≤◌, ◌<◌, length};
 ghost use Rattle.utf8.specs.Chars.{Ascii, Passed, Closed, Past, four_at};
 
-// Whether so many bytes from a position on are ASCII. No byte ends the search, so that the compiler looks at many of them at once.
-fn many_ascii(s: &[u8], start: usize, size: usize) -> bool
-    requires { start + size ≤ length s.now }
-    ensures { result ≡ true → Ascii s.now start size }
+use std::simd::prelude::*;
+
+// Whether the N bytes from a position on are ASCII.
+pub fn is_ascii<const N: usize>(s: &[u8], start: usize) -> bool
+    requires { (start + N ≤ length s.now) × (N ≤ 64) }
+    ensures { result ≡ true → Ascii s.now start N }
 {
-    let mut ascii = true;
-    let mut i: usize = 0;
-    while i < size {
-        if 0x80 <= s[start + i] {
-            ascii = false;
-        }
-        i += 1;
-    }
-    ascii
+    let bytes = Simd::<u8, N>::from_slice(&s[start..]);
+    bytes.simd_ge(Simd::<u8, N>::splat(0x80)).to_bitmask() == 0
 }
 
-// The same. For 32 bytes and fewer the compiler makes one load and one test of each 16 of this form, and of the other many.
-fn few_ascii(s: &[u8], start: usize, size: usize) -> bool
-    requires { (start + size ≤ length s.now) × (size ≤ 32) }
-    ensures { result ≡ true → Ascii s.now start size }
-{
-    let mut count: u8 = 0;
-    let mut i: usize = 0;
-    while i < size {
-        if s[start + i] < 0x80 {
-            count += 1;
-        }
-        i += 1;
-    }
-    count as usize == size
-}
-
-// The same, in the form that is quicker for the size.
-pub fn is_ascii(s: &[u8], start: usize, size: usize) -> bool
-    requires { start + size ≤ length s.now }
-    ensures { result ≡ true → Ascii s.now start size }
-{
-    if size <= 32 {
-        return few_ascii(s, start, size);
-    }
-    many_ascii(s, start, size)
-}
-
-// Where the blocks of so many bytes end that are ASCII and stand before an end.
-fn blocks(s: &[u8], start: usize, end: usize, size: usize) -> usize
-    requires { (start ≤ end) × (end ≤ length s.now) × (3 ≤ size) }
+// Where the blocks of N bytes end that are ASCII and stand before an end.
+fn blocks<const N: usize>(s: &[u8], start: usize, end: usize) -> usize
+    requires { (start ≤ end) × (end ≤ length s.now) × (3 ≤ N) × (N ≤ 64) }
     ensures { Passed s.now start result × (result ≤ end) × (Closed s.now start → Closed s.now result) }
 {
     let mut i = start;
-    while size <= end - i {
-        if !is_ascii(s, i, size) {
+    while N <= end - i {
+        if !is_ascii::<N>(s, i) {
             return i;
         }
-        i += size;
+        i += N;
     }
     i
 }
@@ -116,7 +84,7 @@ pub fn eights(s: &[u8], start: usize) -> usize
         }
         i += 8;
     }
-    bytes(s, blocks(s, i, s.len(), 4))
+    bytes(s, blocks::<4>(s, i, s.len()))
 }
 
 // How far the next char that is not ASCII is sought in narrow blocks.
@@ -136,9 +104,9 @@ pub fn pass_ascii(s: &[u8], start: usize) -> usize
     ensures { Past s.now start result }
 {
     let end = near_end(s, start);
-    let near = blocks(s, start, end, 16);
+    let near = blocks::<16>(s, start, end);
     if 16 <= end - near {
         return near;
     }
-    blocks(s, blocks(s, near, s.len(), 128), s.len(), 16)
+    blocks::<16>(s, blocks::<64>(s, near, s.len()), s.len())
 }

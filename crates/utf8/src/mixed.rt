@@ -90,7 +90,7 @@ fn is_mixed(s: &[u8], i: usize) -> bool
     requires { i ≤ length s.now }
     ensures { result ≡ true → i + 16 ≤ length s.now }
 {
-    16 <= s.len() - i && !is_ascii(s, i, 16)
+    16 <= s.len() - i && !is_ascii::<16>(s, i)
 }
 
 // Where the windows from start + 3 on end, less a char that the last one cuts.

@@ -20,7 +20,7 @@ loop-i-preserved c =
     passed_ascii 8 c.loop-i.invariant (omega arith) (subst (λ (n : ℕ). Ascii c.args.s.now c.loop-i.i n) e c.leading-n.ensures.1)
 
 pub blocks-requires : goal.blocks-requires
-blocks-requires c = (omega arith, omega arith, omega arith)
+blocks-requires c = (omega arith, omega arith, omega arith, omega arith)
 
 pub bytes-requires : goal.bytes-requires
 bytes-requires c = c.blocks-2.ensures.0.within
