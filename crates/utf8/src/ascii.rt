@@ -1,6 +1,6 @@
 // Runs of ASCII.
 ghost use Rattle.std.specs.Prelude.{◌≡◌, true, ◌+◌, ◌≤◌, ◌<◌, length};
-ghost use Rattle.utf8.specs.Chars.{Ascii, Passed, Closed, Past, four_at};
+ghost use Rattle.utf8.specs.Chars.{Ascii, Passed, Closed, Past};
 
 use std::simd::prelude::*;
 
@@ -33,42 +33,18 @@ fn bytes(s: &[u8], start: usize) -> usize
     requires { start ≤ length s.now }
     ensures { Passed s.now start result }
 {
-    let mut i = start;
-    while i < s.len() {
-        if 0x80 <= s[i] {
-            return i;
-        }
-        i += 1;
+    match s[start..].iter().position(|b| 0x80 <= *b) {
+        Some(n) => start + n,
+        None => s.len(),
     }
-    i
-}
-
-fn wide(b: u8) -> u64
-    ensures { (result ≡ b) × (result < 256) }
-{
-    b as u64
-}
-
-// Four bytes as a number, the first one lowest.
-fn four(s: &[u8], i: usize) -> u64
-    requires { i + 4 ≤ length s.now }
-    ensures { (result ≡ four_at s.now i) × (result < 4294967296) }
-{
-    let b0 = wide(s[i]);
-    let b1 = wide(s[i + 1]);
-    let b2 = wide(s[i + 2]);
-    let b3 = wide(s[i + 3]);
-    b0 + 256 * (b1 + 256 * (b2 + 256 * b3))
 }
 
 // How many of eight bytes are ASCII before the first that is not: the lowest of their highest bits tells, without a branch for each.
-fn leading(s: &[u8], i: usize) -> usize
-    requires { i + 8 ≤ length s.now }
-    ensures { (result ≤ 8) × Ascii s.now i result }
+fn leading(bytes: &[u8; 8]) -> usize
+    ensures { (result ≤ 8) × Ascii bytes.now 0 result }
 {
-    let low = four(s, i);
-    let high = four(s, i + 4);
-    (u64::trailing_zeros((low + 4294967296 * high) & 0x8080808080808080) / 8) as usize
+    let highest = u64::from_le_bytes(*bytes) & 0x8080808080808080;
+    highest.trailing_zeros() as usize / 8
 }
 
 // Where the ASCII ends, eight bytes at a time.
@@ -77,8 +53,8 @@ pub fn eights(s: &[u8], start: usize) -> usize
     ensures { Passed s.now start result }
 {
     let mut i = start;
-    while 8 <= s.len() - i {
-        let n = leading(s, i);
+    while let Some(word) = s[i..].first_chunk::<8>() {
+        let n = leading(word);
         if n < 8 {
             return i + n;
         }
@@ -92,10 +68,7 @@ fn near_end(s: &[u8], start: usize) -> usize
     requires { start ≤ length s.now }
     ensures { (start ≤ result) × (result ≤ length s.now) }
 {
-    if s.len() - start < 112 {
-        return s.len();
-    }
-    start + 112
+    start + (s.len() - start).min(112)
 }
 
 // Where the blocks of ASCII at a position end. Wide blocks cost least for each byte, but those before a near char are lost.

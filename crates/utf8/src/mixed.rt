@@ -46,13 +46,11 @@ fn is_window(s: &[u8], i: usize) -> bool
     ensures { result ≡ true → Follows s.now i 16 }
 {
     let mut count: u8 = 0;
-    let mut k: usize = 0;
-    while k < 16 {
+    for k in 0..16 {
         let at = i + k;
         if may_follow(s[at], s[at + 1], s[at + 2], s[at + 3]) {
             count += 1;
         }
-        k += 1;
     }
     count == 16
 }

@@ -7,6 +7,6 @@ use Rattle.utf8.proofs.mixed.is_window.Goals.{then-may_follow, else-may_follow}
 pub loop-k-preserved : goal.loop-k-preserved
 loop-k-preserved c =
     elim c.if-may_follow.branch [
-      | then-may_follow w ↦ (omega arith, omega arith, λ e. follows_more (c.loop-k.invariant.2 (omega arith)) (sym c.may_follow.ensures ∙ w.if-may_follow.true))
-      | else-may_follow w ↦ (omega arith, omega arith, λ e. absurd (omega arith))
+      | then-may_follow w ↦ (omega arith, λ e. follows_more (c.loop-k.invariant.1 (omega arith)) (sym c.may_follow.ensures ∙ w.if-may_follow.true))
+      | else-may_follow w ↦ (omega arith, λ e. absurd (omega arith))
     ]
