@@ -8,6 +8,10 @@ use lib.Dec.{eqb}
 use lib.ListN.{length}
 use borrow.Author.Tests.{lt-ltb, le-ltb}
 use Rattle.hir.specs.Tree.{Forest}
+use Rattle.std.specs.Prelude.{Result as Outcome, Ok, Err}
+use Rattle.refusal.specs.Refusal.{number_of, refusal_of}
+use Rattle.refusal.specs.declared.Refusal.{Refusal}
+use Rattle.refusal.specs.declared.Refusal.TheVariants.{BrokenRule, NotUtf8, Unsupported, OverLimit, NotAssignable, SecondDefault, Negation, TooMany, ZeroByte, TooLong, TooFar, ShortOutput, ShortList, NotActions}
 use Rattle.script.specs.Rules.{check_of}
 use Rattle.script_records.specs.Layout.{layout_of}
 use Rattle.script_records.specs.declared.layout.Layout.{Layout}
@@ -131,3 +135,24 @@ too_short F n h = refuses F n 13 (short_slice F n h)
 pub not_accepted : (F : List ℕ) (n number : ℕ) → 16384 ≤ n → check_of F ≡ number → (number ≡ 0 → ⊥) → Lowers limits01 F n (lowered.Refused number) (zeros_of n)
 not_accepted F n zero room e h = absurd (h refl)
 not_accepted F n (suc k) room e h = refuses F n (suc k) (refused_file F n k room e)
+
+pub numbered : (e : Refusal) → number_of e ≡ 0 → ⊥
+numbered BrokenRule h = omega arith
+numbered NotUtf8 h = omega arith
+numbered Unsupported h = omega arith
+numbered OverLimit h = omega arith
+numbered NotAssignable h = omega arith
+numbered SecondDefault h = omega arith
+numbered Negation h = omega arith
+numbered TooMany h = omega arith
+numbered ZeroByte h = omega arith
+numbered TooLong h = omega arith
+numbered TooFar h = omega arith
+numbered ShortOutput h = omega arith
+numbered ShortList h = omega arith
+numbered NotActions h = omega arith
+
+-- a file that is not refused
+pub accepted_of : {F : List ℕ} {A : Type 0} {r : Outcome A Refusal} → refusal_of r ≡ check_of F → ((e : Refusal) → r ≡ Err e → ⊥) → check_of F ≡ 0
+accepted_of {r = Ok a} q h = sym q
+accepted_of {r = Err e} q h = absurd (h e refl)
