@@ -15,6 +15,7 @@ use script_records::kind::Kind;
 use script_records::layout::Row;
 
 // A word in two's complement.
+#[tactic(auto, using(crate::proofs::DecodeLaws::cast_is_signed))]
 pub fn to_signed(w: u32) -> i32
     ensures { result ≡ signed w }
 {
@@ -104,8 +105,7 @@ fn unary_operator(a: u32, b: u32) -> UnaryOperator
 pub fn constant(r: Row) -> ConstantKind
     ensures { result ≡ constant_of (words_of r) }
 {
-    let a = r.a;
-    match a {
+    match r.a {
         0 => ConstantKind::String(r.b),
         1 => ConstantKind::Identifier(r.b),
         2 => ConstantKind::Float(r.b, r.c),
@@ -115,6 +115,7 @@ pub fn constant(r: Row) -> ConstantKind
     }
 }
 
+#[tactic(auto, unfolding(crate::specs::Decode::condition_of))]
 fn condition(r: Row) -> ForCondition
     ensures { result ≡ condition_of (words_of r) }
 {
@@ -140,7 +141,7 @@ pub fn is_supported(kind: u32) -> bool
     !matches!(kind, TRY..=WITH | GET_URL)
 }
 
-// A record of that kind.
+// A record of that kind: an arm for each kind.
 #[tactic(auto, unfolding(crate::specs::Decode::record_of, crate::specs::Decode::plain_of, crate::specs::Decode::statement_kinds, crate::specs::Decode::expr_kinds, crate::specs::Decode::condition_of, crate::specs::Decode::constant_of))]
 fn record_of_kind(kind: Kind, r: Row) -> Record
     ensures { result ≡ record_of (record { kind = number_of kind; a = r.a; b = r.b; c = r.c }) }

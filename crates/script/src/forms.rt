@@ -126,7 +126,7 @@ fn for_in_form(a: u32, b: u32) -> Form
     }
 }
 
-// The form of a record of that kind.
+// The form of a record of that kind: an arm for each form.
 #[tactic(auto, unfolding(crate::specs::Forms::form_of))]
 fn form_of_kind(kind: Kind, r: Row) -> Form
     ensures { form_as result ≡ form_of (record { kind = number_of kind; a = r.a; b = r.b; c = r.c }) }

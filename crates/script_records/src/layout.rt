@@ -28,6 +28,7 @@ pub struct Row {
     pub size: u32,
 }
 
+#[tactic(auto, using(crate::proofs::LayoutLaws::four_bytes), unfolding(crate::specs::Layout::word_at))]
 fn word(file: &[u8], at: usize) -> u32
     requires { at + 4 ≤ length file.now }
     ensures { result ≡ word_at file.now at }
@@ -35,6 +36,7 @@ fn word(file: &[u8], at: usize) -> u32
     u32::from_le_bytes([file[at], file[at + 1], file[at + 2], file[at + 3]])
 }
 
+#[tactic(auto, using(crate::proofs::LayoutLaws::default_layout), unfolding(crate::specs::Layout::layout_of))]
 pub fn layout_of(file: &[u8]) -> Layout
     ensures { result ≡ layout_of file.now }
 {
@@ -86,6 +88,7 @@ impl<'a> ScriptFile<'a> {
     }
 
     // Record i, where it lies in the file.
+    #[tactic(auto, using(crate::proofs::LayoutLaws::row_whole))]
     pub fn known_row(&self, i: usize) -> Row
         requires { HasRow self.now.bytes.now self.now.layout i }
         ensures { result ≡ row_in (rows_of self.now.bytes.now self.now.layout) i }
@@ -101,6 +104,7 @@ impl<'a> ScriptFile<'a> {
     }
 
     // Record i, and zeros where there is none.
+    #[tactic(auto, using(crate::proofs::LayoutLaws::default_row, crate::proofs::LayoutLaws::rows_out, crate::proofs::LayoutLaws::row_short))]
     pub fn row_at(&self, i: usize) -> Row
         ensures { result ≡ row_in (rows_of self.now.bytes.now self.now.layout) i }
     {
@@ -114,6 +118,7 @@ impl<'a> ScriptFile<'a> {
     }
 
     // Where string i ends, and 0 where its end offset does not lie in the file.
+    #[tactic(auto, using(crate::proofs::LayoutLaws::end_short, crate::proofs::LayoutLaws::end_whole))]
     pub fn end_at(&self, i: usize) -> usize
         ensures { result ≡ end_at self.now.bytes.now self.now.layout i }
     {
@@ -131,6 +136,7 @@ impl<'a> ScriptFile<'a> {
     }
 
     // The part of the file that holds string i.
+    #[tactic(auto, using(crate::proofs::LayoutLaws::string_part))]
     pub fn string(&self, i: usize) -> &'a [u8]
         ensures { result.now ≡ string_at self.now.bytes.now self.now.layout i }
     {

@@ -4,15 +4,6 @@ use Rattle.decode.specs.Decode.{function_of}
 use Rattle.decode.proofs.DecodeLaws.{name_found, marks_listed}
 use Rattle.decode.proofs.function_of.Goals as goal
 
-pub loop-i-preserved : goal.loop-i-preserved
-loop-i-preserved c =
-    let lt : c.loop-i.i < length c.loop-i.mark-items = omega arith in (
-      rw length-set c.loop-i.invariant.0,
-      below_more _ _
-          (λ k h. let ne : k ≢ c.loop-i.i = omega arith in rw get_or-set_other (c.loop-i.invariant.1 k h))
-          (rw get_or-set_same (rw shr_and_one)),
-    )
-
 pub returns : goal.returns
 unfolding function_of
 returns c = rw (marks_listed c.args.r.c c.loop-i.mark-items c.loop-i-test.array_long (λ k h. c.loop-i.invariant.1 k (omega arith)), name_found c.args.r.a c.checked_sub.result c.checked_sub.ensures)

@@ -5,14 +5,8 @@ use Rattle.script_records.proofs.Trees.{tree_less}
 use Rattle.script.proofs.RecordLaws.{passed_none, passed_one, siblings_broken, siblings_counted, parted_not}
 use Rattle.script.proofs.record_rules.count_siblings.Goals as goal
 
-pub loop-part-init : goal.loop-part-init
-loop-part-init c = passed_none _ _
-
 pub returns-then-size-eq0 : goal.returns-then-size-eq0
 returns-then-size-eq0 c = siblings_broken (rows_of c.args.script.now.bytes.now c.args.script.now.layout) _ c.loop-part.part c.loop-part.count c.loop-part.invariant (parted_not (rows_of c.args.script.now.bytes.now c.args.script.now.layout) c.loop-part.part c.last_tree-t.ensures (omega arith) c.then-size-eq0.either)
-
-pub overflow_add-count : goal.overflow_add-count
-overflow_add-count c = omega (arith, c.loop-part.invariant.few)
 
 pub loop-part-smaller : goal.loop-part-smaller
 loop-part-smaller c = (tree_less (rows_of c.args.script.now.bytes.now c.args.script.now.layout) c.loop-part.part c.last_tree-t.ensures (omega arith)).1

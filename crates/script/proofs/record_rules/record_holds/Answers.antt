@@ -13,9 +13,6 @@ returns-then-size-eq0 c =
       | then-size-eq0-via-else-size-eq0+then-i-size w ↦ large (inr (w.if-size-eq0.false, w.if-i-size.true))
     ]
 
-pub form_fits-requires : goal.form_fits-requires
-form_fits-requires c = record_count_lem c.args.script.now.layout.strings (rows_of c.args.script.now.bytes.now c.args.script.now.layout) c.args.i c.row_at-r.ensures c.if-size-eq0.false c.if-i-size.false c.in-Some.ensures
-
 pub returns-in-None : goal.returns-in-None
 returns-in-None c = record_broken c.args.script.now.layout.strings (rows_of c.args.script.now.bytes.now c.args.script.now.layout) c.args.i c.row_at-r.ensures c.if-size-eq0.false c.if-i-size.false c.in-None.ensures
 

@@ -14,6 +14,3 @@ returns-then-end_at-start_at c = rw (upto_not (test c.args.script.now.bytes.now 
 
 pub loop-i-preserved : goal.loop-i-preserved
 loop-i-preserved c = upto_next (test c.args.script.now.bytes.now c.args.script.now.layout) _ c.loop-i.i c.loop-i.invariant (omega arith) refl (rw (← c.end_at.ensures, ← c.start_at.ensures) (le-leb _ _ c.if-end_at-start_at.false))
-
-pub returns : goal.returns
-returns c = rw (upto_all (test c.args.script.now.bytes.now c.args.script.now.layout) _ c.loop-i.i c.loop-i.invariant (omega arith), c.start_at-2.ensures)

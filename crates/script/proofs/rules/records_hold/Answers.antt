@@ -13,6 +13,3 @@ returns-then-not-record_holds c = rw (upto_not (record_holds c.args.script.now.l
 
 pub loop-i-preserved : goal.loop-i-preserved
 loop-i-preserved c = upto_next (record_holds c.args.script.now.layout.strings (rows_of c.args.script.now.bytes.now c.args.script.now.layout)) c.args.script.now.layout.count c.loop-i.i c.loop-i.invariant (omega arith) c.record_holds.ensures c.if-not-record_holds.false
-
-pub returns : goal.returns
-returns c = rw (upto_all (record_holds c.args.script.now.layout.strings (rows_of c.args.script.now.bytes.now c.args.script.now.layout)) c.args.script.now.layout.count c.loop-i.i c.loop-i.invariant (omega arith)) c.root_holds.ensures

@@ -16,9 +16,6 @@ pub loop-start-init : goal.loop-start-init
 unfolding tree_in
 loop-start-init c = rw (c.push.ensures.items, c.new-starts.ensures) (deep_start _ _)
 
-pub loop-start-smaller : goal.loop-start-smaller
-loop-start-smaller c = omega (arith, c.in-Some.ensures.len)
-
 pub loop-start-preserved : goal.loop-start-preserved
 loop-start-preserved c = deep_pop _ _ _ _ _ c.in-Some.ensures.items c.loop-start.invariant c.if-start-i.false
 
