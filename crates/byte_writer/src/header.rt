@@ -81,7 +81,7 @@ impl Writer<'_> {
         self.text(param.name);
     }
 
-    // The last parameter is written first: so they are walked.
+    // The last parameter is written first: so they are walked, and there is no heap to hold them in order. Their bytes are summed before.
     fn params(&mut self, params: &Trees, wide: bool)
         requires script { params.now.script ≡ self.old.script }
         requires short { length (params_data wide (params_of (trees_of params.now))) ≤ 65535 }

@@ -7,7 +7,7 @@ use crate::walk::word_of;
 use pcode::{ByteOffset, Label, Position};
 use refusal::Refusal;
 
-// Of one list, where the actions begin, by their positions, and after them the list's end; and the labels' positions.
+// Tables of fixed length, since there is no heap. Of one list, where the actions begin, by their positions, and after them the list's end; and the labels' positions.
 #[derive(Drop)]
 pub struct Places {
     pub starts: [u32; 4097],
@@ -35,7 +35,7 @@ pub struct Tables {
     pub offsets: [u32; 4096],
 }
 
-// One list: its body's bytes, and whether its branches reach.
+// One list: its body's bytes, and whether its branches reach. A branch that doesn't is refused only if no list is too long.
 #[derive(Clone, Copy)]
 pub struct Body {
     pub bytes: u32,

@@ -41,7 +41,7 @@ impl Text {
     }
 }
 
-// The data bytes of an entry, and whether its strings have no zero byte.
+// The data bytes of an entry, and whether its strings have no zero byte: one pass asks for the one, another for the other.
 #[derive(Clone, Copy)]
 pub struct Data {
     pub bytes: usize,

@@ -1,4 +1,4 @@
-// The codes of entries. An action's is that of its record; from LONG on a record has a length and data.
+// The codes of entries, which are numbers since programs in other languages lend and read the list slice. An action's is that of its record; from LONG on a record has a length and data.
 pub const LONG: u32 = 0x80;
 
 pub const GOTO_FRAME: u32 = 0x81;
