@@ -1,6 +1,4 @@
 // What a long answer prints instead of its lists, and the edges of what a call is lent.
-ghost use Rattle.std.specs.Prelude.{◌≤◌, length};
-
 use rascal::compile;
 use refusal::Refusal;
 use std::io;
@@ -18,24 +16,21 @@ pub fn put_sum<W: Write>(bytes: &[u8], out: &mut W) -> io::Result<()> {
     writeln!(out, "length {} sum {}", bytes.len(), sum(bytes))
 }
 
-// Of a file that compiles to n bytes: a line only where an output of n bytes does not suffice, one byte less is not refusal 12, or a list slice of 16,383
-// words is not 13.
+// Of a file whose bytes fill the output: a line only where the output does not suffice, one byte less is not refusal 12, or a list slice of 16,383 words
+// is not 13.
 pub fn put_edges<W: Write>(
     file: &[u8],
     list: &mut [u32],
     output: &mut [u8],
-    n: usize,
     out: &mut W,
-) -> io::Result<()>
-    requires { n ≤ length output.old }
-{
-    if n == 0 {
+) -> io::Result<()> {
+    let Some(less) = output.len().checked_sub(1) else {
         return writeln!(out, "no bytes");
-    }
-    if compile(file, list, &mut output[..n]).is_err() {
+    };
+    if compile(file, list, output).is_err() {
         return writeln!(out, "an exact output is refused");
     }
-    if compile(file, list, &mut output[..n - 1]) != Err(Refusal::ShortOutput) {
+    if compile(file, list, &mut output[..less]) != Err(Refusal::ShortOutput) {
         return writeln!(out, "a short output is not 12");
     }
     let few = list.len().min(16383);

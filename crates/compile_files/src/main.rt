@@ -31,7 +31,7 @@ fn put_answer<W: Write>(
     match compile(file, list, output) {
         Ok(n) => {
             put_success(file, list, &output[..n], out)?;
-            put_edges(file, list, output, n, out)
+            put_edges(file, list, &mut output[..n], out)
         }
         Err(refusal) => put_refusal(out, refusal),
     }
