@@ -1,5 +1,5 @@
 // The labels of `context.rs`.
-ghost use Rattle.std.specs.Prelude.{◌≡◌, List, ℕ};
+ghost use Rattle.std.specs.Prelude.{◌≡◌, ◌≤◌, List, ℕ};
 ghost use Rattle.lowering.specs.Builder.{create_label};
 ghost use Rattle.hir.specs.Tree.{Forest};
 ghost use Rattle.lowering.specs.Meaning.{Meaning};
@@ -31,6 +31,7 @@ impl CodeBuilder<'_> {
     // A label for each Case and Default of a switch, in order, the first of them the number of labels made before.
     pub fn create_labels(&mut self, n: u32) -> Label
         ensures keeps { Keeps self.old self.new }
+        ensures bound { result.0 ≤ 1024 }
         ensures runs { (F : List ℕ) (ms : Forest Meaning) → labels_of_forest ms ≡ n →
             Runs F (with_labels ms) self.old (elements_from result.0 ms) self.new }
     {

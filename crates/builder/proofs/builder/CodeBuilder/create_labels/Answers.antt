@@ -7,13 +7,13 @@ use Rattle.builder.proofs.Runs.{kept, counts}
 use Rattle.builder.proofs.builder.CodeBuilder.create_labels.Goals as goal
 
 pub returns-then-is_some : goal.returns-then-is_some
-returns-then-is_some c = record { keeps = kept refl; runs = λ F ms e. counts refl (stays (sym c.if-is_some.ensures) c.args.self.now.fine) }
+returns-then-is_some c = record { bound = omega (arith, c.args.self.now.fine.labels); keeps = kept refl; runs = λ F ms e. counts refl (stays (sym c.if-is_some.ensures) c.args.self.now.fine) }
 
 pub returns-then-self-n : goal.returns-then-self-n
-returns-then-self-n c = record { keeps = kept refl; runs = λ F ms e. counts refl (labels_full F ms c.args.self.now.fine (sym c.if-is_some.ensures) e (omega (arith, c.if-self-n.true))) }
+returns-then-self-n c = record { bound = omega (arith, c.args.self.now.fine.labels); keeps = kept refl; runs = λ F ms e. counts refl (labels_full F ms c.args.self.now.fine (sym c.if-is_some.ensures) e (omega (arith, c.if-self-n.true))) }
 
 pub invariant_of-self-2 : goal.invariant_of-self-2
 invariant_of-self-2 c = record { fine = labelled_fine c.args.n c.args.self.now.fine (omega (arith, c.if-self-n.false, c.args.self.now.fine.labels)) }
 
 pub returns : goal.returns
-returns c = record { keeps = kept refl; runs = λ F ms e. counts refl (labels_done F ms c.args.self.now.fine (sym c.if-is_some.ensures) e (omega (arith, c.if-self-n.false, c.args.self.now.fine.labels))) }
+returns c = record { bound = omega (arith, c.args.self.now.fine.labels); keeps = kept refl; runs = λ F ms e. counts refl (labels_done F ms c.args.self.now.fine (sym c.if-is_some.ensures) e (omega (arith, c.if-self-n.false, c.args.self.now.fine.labels))) }
