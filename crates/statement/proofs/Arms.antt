@@ -130,13 +130,13 @@ module _ {F : List ℕ} (l : Layout) (p : Part) {b : BuilderState} {w : List ℕ
       let e1 = same_does (exprs (meanings_at F es)) (each_of Expr lp 0 0 (meanings_at F es)) (exprs_each lp 0 0 (meanings_at F es)) d1 in
       record { same = rw (k-es.means, values_law k-es.within z o, after_then, ← e1.same, d2.same); fine = d2.fine; named = λ n. d2.named (d1.named n) }
 
-  pub switch_arm : {b1 b2 b3 : BuilderState} {w3 : List ℕ} →
+  pub switch_arm : {b1 b2 b3 : BuilderState} {w1 w2 w3 : List ℕ} {q : ℕ} (q1 : ℕ) →
       (lp : Loop) →
-      Does F (create_label) b w b.labels b1 w →
-      Does F (with_labels (list_at F p 0)) b1 w (elements_from b1.labels (list_at F p 0)) b2 w →
-      Does F (when (has_case (elements_from b1.labels (list_at F p 0)) || has_default (elements_from b1.labels (list_at F p 0))) (gen_cases lp (kid_at F p 1) b.labels (elements_from b1.labels (list_at F p 0)))) b2 w tt b3 w3 →
+      Does F (create_label) b w q b1 w1 →
+      Does F (with_labels (list_at F p 0)) b1 w1 (elements_from q1 (list_at F p 0)) b2 w2 →
+      Does F (when (has_case (elements_from q1 (list_at F p 0)) || has_default (elements_from q1 (list_at F p 0))) (gen_cases lp (kid_at F p 1) q (elements_from q1 (list_at F p 0)))) b2 w2 tt b3 w3 →
       Does F (gen_switch lp (kid_at F p 1) (list_at F p 0)) b w tt b3 w3
-  switch_arm lp d1 d2 d3 =
+  switch_arm q1 lp d1 d2 d3 =
       record { same = rw (after_bind, ← d1.same, carry_held, after_bind, ← d2.same, carry_held, d3.same); fine = d3.fine; named = λ n. d3.named (d2.named (d1.named n)) }
 
   cases_arm : {b1 b2 b3 b4 : BuilderState} {w1 w2 w3 w4 : List ℕ} →
@@ -170,63 +170,63 @@ module _ {F : List ℕ} (l : Layout) (p : Part) {b : BuilderState} {w : List ℕ
       let e3 = same_does (gen_conditionals (elements_from first (list_at F p 0))) (each_of Conditional lp first d (meanings_at F es)) (λ v. rw k-es.means (tests_each first lp d (meanings_at F es) v)) d3 in
       record { same = rw (has_tests s z, k-target.meaning, after_then, after_then, ← d1.same, ← d2.same, e3.same); fine = d3.fine; named = λ n. d3.named (d2.named (d1.named n)) }
 
-  pub while_arm : {b1 b2 b3 b4 b5 b6 b7 b8 b9 : BuilderState} {w3 w4 w5 w6 w7 w8 w9 : List ℕ} →
+  pub while_arm : {b1 b2 b3 b4 b5 b6 b7 b8 b9 : BuilderState} {w1 w2 w3 w4 w5 w6 w7 w8 w9 : List ℕ} {q q1 : ℕ} →
       {condition : Part} → IsKid F l p 1 condition →
-      (inner : Loop) → inner ≡ record { break_label = some b1.labels; continue_label = some b.labels } →
-      Does F (create_label) b w b.labels b1 w →
-      Does F (create_label) b1 w b1.labels b2 w →
-      Does F (mark_label b.labels) b2 w tt b3 w3 →
+      (inner : Loop) → inner ≡ record { break_label = some q1; continue_label = some q } →
+      Does F (create_label) b w q b1 w1 →
+      Does F (create_label) b1 w1 q1 b2 w2 →
+      Does F (mark_label q) b2 w2 tt b3 w3 →
       Does F ((kid_at F condition 0).gen_expr false) b3 w3 tt b4 w4 →
       Does F (action Not) b4 w4 tt b5 w5 →
-      Does F (branch b1.labels) b5 w5 tt b6 w6 →
+      Does F (branch q1) b5 w5 tt b6 w6 →
       Does F ((kid_at F p 0).gen_statement inner) b6 w6 tt b7 w7 →
-      Does F (jump b.labels) b7 w7 tt b8 w8 →
-      Does F (mark_label b1.labels) b8 w8 tt b9 w9 →
+      Does F (jump q) b7 w7 tt b8 w8 →
+      Does F (mark_label q1) b8 w8 tt b9 w9 →
       Does F (gen_while_loop (kid_at F p 1) (kid_at F p 0)) b w tt b9 w9
   while_arm {condition = condition} k-condition inner i d1 d2 d3 d4 d5 d6 d7 d8 d9 =
       let e7 = rw i at d7 in
       record { same = rw (k-condition.meaning, after_bind, ← d1.same, carry_held, after_bind, ← d2.same, carry_held, after_then, ← d3.same, after_then, ← d4.same, after_then, ← d5.same, after_then, ← d6.same, after_then, ← e7.same, after_then, ← d8.same, d9.same); fine = d9.fine; named = λ n. d9.named (d8.named (d7.named (d6.named (d5.named (d4.named (d3.named (d2.named (d1.named n)))))))) }
 
-  pub for_in_arm : {b1 b2 b3 b4 b5 b6 b7 b8 b9 b10 b11 b12 b13 b14 : BuilderState} {w3 w4 w5 w6 w7 w8 w9 w10 w11 w12 w13 w14 : List ℕ} →
+  pub for_in_arm : {b1 b2 b3 b4 b5 b6 b7 b8 b9 b10 b11 b12 b13 b14 : BuilderState} {w1 w2 w3 w4 w5 w6 w7 w8 w9 w10 w11 w12 w13 w14 : List ℕ} {q q1 : ℕ} →
       (target : EnumeratorTarget) →
       {object : Part} → IsKid F l p 1 object →
-      (inner : Loop) → inner ≡ record { break_label = some b.labels; continue_label = some b1.labels } →
-      Does F (create_label) b w b.labels b1 w →
-      Does F (create_label) b1 w b1.labels b2 w →
-      Does F ((kid_at F object 0).gen_expr false) b2 w tt b3 w3 →
+      (inner : Loop) → inner ≡ record { break_label = some q; continue_label = some q1 } →
+      Does F (create_label) b w q b1 w1 →
+      Does F (create_label) b1 w1 q1 b2 w2 →
+      Does F ((kid_at F object 0).gen_expr false) b2 w2 tt b3 w3 →
       Does F (action Enumerate2) b3 w3 tt b4 w4 →
-      Does F (mark_label b1.labels) b4 w4 tt b5 w5 →
+      Does F (mark_label q1) b4 w4 tt b5 w5 →
       Does F (store_register 0) b5 w5 tt b6 w6 →
       Does F (push Null) b6 w6 tt b7 w7 →
       Does F (action Equals2) b7 w7 tt b8 w8 →
-      Does F (branch b.labels) b8 w8 tt b9 w9 →
+      Does F (branch q) b8 w8 tt b9 w9 →
       Does F (gen_target target) b9 w9 tt b10 w10 →
       Does F ((kid_at F p 0).gen_statement inner) b10 w10 tt b11 w11 →
-      Does F (jump b1.labels) b11 w11 tt b12 w12 →
+      Does F (jump q1) b11 w11 tt b12 w12 →
       Does F (truncate_stack b.size) b12 w12 tt b13 w13 →
-      Does F (mark_label b.labels) b13 w13 tt b14 w14 →
+      Does F (mark_label q) b13 w13 tt b14 w14 →
       Does F (gen_enumerate target (kid_at F p 1) (kid_at F p 0)) b w tt b14 w14
   for_in_arm target {object = object} k-object inner i d1 d2 d3 d4 d5 d6 d7 d8 d9 d10 d11 d12 d13 d14 =
       let e11 = rw i at d11 in
       record { same = rw (k-object.meaning, after_size, after_bind, ← d1.same, carry_held, after_bind, ← d2.same, carry_held, after_then, ← d3.same, after_then, ← d4.same, after_then, ← d5.same, after_then, ← d6.same, after_then, ← d7.same, after_then, ← d8.same, after_then, ← d9.same, after_then, ← d10.same, after_then, ← e11.same, after_then, ← d12.same, after_then, ← d13.same, d14.same); fine = d14.fine; named = λ n. d14.named (d13.named (d12.named (d11.named (d10.named (d9.named (d8.named (d7.named (d6.named (d5.named (d4.named (d3.named (d2.named (d1.named n))))))))))))) }
 
-  pub for_loop_arm : {b1 b2 b3 b4 b5 b6 b7 b8 b9 b10 b11 b12 : BuilderState} {w3 w5 w6 w7 w8 w9 w10 w11 w12 : List ℕ} →
+  pub for_loop_arm : {b1 b2 b3 b4 b5 b6 b7 b8 b9 b10 b11 b12 : BuilderState} {w1 w2 w3 w4 w5 w6 w7 w8 w9 w10 w11 w12 : List ℕ} {q q1 q3 : ℕ} →
       {initialize : Part} → IsKid F l p 3 initialize →
       {condition : Part} → IsList F l p 2 condition →
       {update : Part} → IsList F l p 1 update →
-      (inner : Loop) → inner ≡ record { break_label = some b.labels; continue_label = some b1.labels } →
-      Does F (create_label) b w b.labels b1 w →
-      Does F (create_label) b1 w b1.labels b2 w →
-      Does F ((kid_at F initialize 0).gen_statement inner) b2 w tt b3 w3 →
-      Does F (create_label) b3 w3 b3.labels b4 w3 →
-      Does F (mark_label b3.labels) b4 w3 tt b5 w5 →
-      Does F (gen_condition b.labels (meanings_at F condition)) b5 w5 tt b6 w6 →
+      (inner : Loop) → inner ≡ record { break_label = some q; continue_label = some q1 } →
+      Does F (create_label) b w q b1 w1 →
+      Does F (create_label) b1 w1 q1 b2 w2 →
+      Does F ((kid_at F initialize 0).gen_statement inner) b2 w2 tt b3 w3 →
+      Does F (create_label) b3 w3 q3 b4 w4 →
+      Does F (mark_label q3) b4 w4 tt b5 w5 →
+      Does F (gen_condition q (meanings_at F condition)) b5 w5 tt b6 w6 →
       Does F ((kid_at F p 0).gen_statement inner) b6 w6 tt b7 w7 →
-      Does F (mark_label b1.labels) b7 w7 tt b8 w8 →
+      Does F (mark_label q1) b7 w7 tt b8 w8 →
       Does F (each_of Discarded inner 0 0 (meanings_at F update)) b8 w8 tt b9 w9 →
-      Does F (jump b3.labels) b9 w9 tt b10 w10 →
+      Does F (jump q3) b9 w9 tt b10 w10 →
       Does F (truncate_stack b.size) b10 w10 tt b11 w11 →
-      Does F (mark_label b.labels) b11 w11 tt b12 w12 →
+      Does F (mark_label q) b11 w11 tt b12 w12 →
       Does F (gen_classic (kid_at F p 3) (list_at F p 2) (list_at F p 1) (kid_at F p 0)) b w tt b12 w12
   for_loop_arm {initialize = initialize} k-initialize {condition = condition} k-condition {update = update} k-update inner i d1 d2 d3 d4 d5 d6 d7 d8 d9 d10 d11 d12 =
       let e3 = rw i at d3 in
@@ -248,27 +248,27 @@ module _ {F : List ℕ} (l : Layout) (p : Part) {b : BuilderState} {w : List ℕ
       let e1 = same_does (all_discarded (meanings_at F t.before)) (each_of Discarded lp 0 0 (meanings_at F t.before)) (discarded_each lp 0 0 (meanings_at F t.before)) d1 in
       record { same = rw (condition_law n z end, after_then, after_then, after_then, ← e1.same, ← d2.same, ← d3.same, d4.same); fine = d4.fine; named = λ n. d4.named (d3.named (d2.named (d1.named n))) }
 
-  if_arm : {b1 b2 b3 b4 b5 : BuilderState} {w2 w3 w4 w5 : List ℕ} →
+  if_arm : {b1 b2 b3 b4 b5 : BuilderState} {w1 w2 w3 w4 w5 : List ℕ} {q : ℕ} →
       (lp : Loop) →
       {condition : Part} → IsKid F l p 2 condition →
-      Does F (create_label) b w b.labels b1 w →
-      Does F ((kid_at F condition 0).gen_expr false) b1 w tt b2 w2 →
+      Does F (create_label) b w q b1 w1 →
+      Does F ((kid_at F condition 0).gen_expr false) b1 w1 tt b2 w2 →
       Does F (action Not) b2 w2 tt b3 w3 →
-      Does F (gen_branches lp b.labels (kid_at F p 1) (kid_at F p 0) (present (kid_at F p 0).rec)) b3 w3 tt b4 w4 →
-      Does F (mark_label b.labels) b4 w4 tt b5 w5 →
+      Does F (gen_branches lp q (kid_at F p 1) (kid_at F p 0) (present (kid_at F p 0).rec)) b3 w3 tt b4 w4 →
+      Does F (mark_label q) b4 w4 tt b5 w5 →
       Does F (gen_if lp (kid_at F p 2) (kid_at F p 1) (kid_at F p 0)) b w tt b5 w5
   if_arm lp {condition = condition} k-condition d1 d2 d3 d4 d5 =
       record { same = rw (k-condition.meaning, after_bind, ← d1.same, carry_held, after_then, ← d2.same, after_then, ← d3.same, after_then, ← d4.same, d5.same); fine = d5.fine; named = λ n. d5.named (d4.named (d3.named (d2.named (d1.named n)))) }
 
-  both_arm : {b1 b2 b3 b4 b5 b6 : BuilderState} {w2 w3 w4 w5 w6 : List ℕ} →
+  both_arm : {b1 b2 b3 b4 b5 b6 : BuilderState} {w1 w2 w3 w4 w5 w6 : List ℕ} {q : ℕ} →
       (lp : Loop) →
       (end : ℕ) →
       {yes' : Part} → IsKid F l p 1 yes' →
-      Does F (create_label) b w b.labels b1 w →
-      Does F (branch b.labels) b1 w tt b2 w2 →
+      Does F (create_label) b w q b1 w1 →
+      Does F (branch q) b1 w1 tt b2 w2 →
       Does F ((kid_at F yes' 0).gen_statement lp) b2 w2 tt b3 w3 →
       Does F (jump end) b3 w3 tt b4 w4 →
-      Does F (mark_label b.labels) b4 w4 tt b5 w5 →
+      Does F (mark_label q) b4 w4 tt b5 w5 →
       Does F ((kid_at F p 0).gen_statement lp) b5 w5 tt b6 w6 →
       Does F (gen_branches lp end (kid_at F p 1) (kid_at F p 0) true) b w tt b6 w6
   both_arm lp end {yes' = yes'} k-yes' d1 d2 d3 d4 d5 d6 =
@@ -323,31 +323,31 @@ module _ {F : List ℕ} (l : Layout) (p : Part) {b : BuilderState} {w : List ℕ
   assign_arm discard {left = left} k-left d1 d2 d3 =
       record { same = rw (k-left.meaning, after_bind, ← d1.same, carry_held, after_then, ← d2.same, d3.same); fine = d3.fine; named = λ n. d3.named (d2.named (d1.named n)) }
 
-  pub and_arm : {b1 b2 b3 b4 b5 b6 b7 b8 : BuilderState} {w2 w3 w4 w5 w6 w7 w8 : List ℕ} →
+  pub and_arm : {b1 b2 b3 b4 b5 b6 b7 b8 : BuilderState} {w1 w2 w3 w4 w5 w6 w7 w8 : List ℕ} {q : ℕ} →
       {left : Part} → IsKid F l p 1 left →
       (discard : Bool) →
-      Does F (create_label) b w b.labels b1 w →
-      Does F ((kid_at F left 0).gen_expr false) b1 w tt b2 w2 →
+      Does F (create_label) b w q b1 w1 →
+      Does F ((kid_at F left 0).gen_expr false) b1 w1 tt b2 w2 →
       Does F (action PushDuplicate) b2 w2 tt b3 w3 →
       Does F (action Not) b3 w3 tt b4 w4 →
-      Does F (branch b.labels) b4 w4 tt b5 w5 →
+      Does F (branch q) b4 w4 tt b5 w5 →
       Does F (action Pop) b5 w5 tt b6 w6 →
       Does F ((kid_at F p 0).gen_expr false) b6 w6 tt b7 w7 →
-      Does F (mark_label b.labels) b7 w7 tt b8 w8 →
+      Does F (mark_label q) b7 w7 tt b8 w8 →
       Does F (gen_binary_op logical-and (meanings_at F p) discard) b w tt b8 w8
   and_arm {left = left} k-left discard d1 d2 d3 d4 d5 d6 d7 d8 =
       record { same = rw (k-left.meaning, after_bind, ← d1.same, carry_held, after_then, ← d2.same, after_then, ← d3.same, after_then, ← d4.same, after_then, ← d5.same, after_then, ← d6.same, after_then, ← d7.same, d8.same); fine = d8.fine; named = λ n. d8.named (d7.named (d6.named (d5.named (d4.named (d3.named (d2.named (d1.named n))))))) }
 
-  pub or_arm : {b1 b2 b3 b4 b5 b6 b7 : BuilderState} {w2 w3 w4 w5 w6 w7 : List ℕ} →
+  pub or_arm : {b1 b2 b3 b4 b5 b6 b7 : BuilderState} {w1 w2 w3 w4 w5 w6 w7 : List ℕ} {q : ℕ} →
       {left : Part} → IsKid F l p 1 left →
       (discard : Bool) →
-      Does F (create_label) b w b.labels b1 w →
-      Does F ((kid_at F left 0).gen_expr false) b1 w tt b2 w2 →
+      Does F (create_label) b w q b1 w1 →
+      Does F ((kid_at F left 0).gen_expr false) b1 w1 tt b2 w2 →
       Does F (action PushDuplicate) b2 w2 tt b3 w3 →
-      Does F (branch b.labels) b3 w3 tt b4 w4 →
+      Does F (branch q) b3 w3 tt b4 w4 →
       Does F (action Pop) b4 w4 tt b5 w5 →
       Does F ((kid_at F p 0).gen_expr false) b5 w5 tt b6 w6 →
-      Does F (mark_label b.labels) b6 w6 tt b7 w7 →
+      Does F (mark_label q) b6 w6 tt b7 w7 →
       Does F (gen_binary_op logical-or (meanings_at F p) discard) b w tt b7 w7
   or_arm {left = left} k-left discard d1 d2 d3 d4 d5 d6 d7 =
       record { same = rw (k-left.meaning, after_bind, ← d1.same, carry_held, after_then, ← d2.same, after_then, ← d3.same, after_then, ← d4.same, after_then, ← d5.same, after_then, ← d6.same, d7.same); fine = d7.fine; named = λ n. d7.named (d6.named (d5.named (d4.named (d3.named (d2.named (d1.named n)))))) }
@@ -418,20 +418,20 @@ module _ {F : List ℕ} (l : Layout) (p : Part) {b : BuilderState} {w : List ℕ
   delete_arm d1 d2 =
       record { same = rw (after_bind, ← d1.same, carry_held, d2.same); fine = d2.fine; named = λ n. d2.named (d1.named n) }
 
-  pub ternary_arm : {b1 b2 b3 b4 b5 b6 b7 b8 b9 b10 : BuilderState} {w3 w4 w5 w6 w7 w8 w9 : List ℕ} →
+  pub ternary_arm : {b1 b2 b3 b4 b5 b6 b7 b8 b9 b10 : BuilderState} {w1 w2 w3 w4 w5 w6 w7 w8 w9 w10 : List ℕ} {q q1 : ℕ} →
       {condition : Part} → IsKid F l p 2 condition →
       {yes' : Part} → IsKid F l p 1 yes' →
-      Does F (create_label) b w b.labels b1 w →
-      Does F (create_label) b1 w b1.labels b2 w →
-      Does F ((kid_at F condition 0).gen_expr false) b2 w tt b3 w3 →
-      Does F (branch b1.labels) b3 w3 tt b4 w4 →
+      Does F (create_label) b w q b1 w1 →
+      Does F (create_label) b1 w1 q1 b2 w2 →
+      Does F ((kid_at F condition 0).gen_expr false) b2 w2 tt b3 w3 →
+      Does F (branch q1) b3 w3 tt b4 w4 →
       Does F ((kid_at F p 0).gen_expr false) b4 w4 tt b5 w5 →
-      Does F (jump b.labels) b5 w5 tt b6 w6 →
-      Does F (mark_label b1.labels) b6 w6 tt b7 w7 →
+      Does F (jump q) b5 w5 tt b6 w6 →
+      Does F (mark_label q1) b6 w6 tt b7 w7 →
       Does F ((kid_at F yes' 0).gen_expr false) b7 w7 tt b8 w8 →
-      Does F (mark_label b.labels) b8 w8 tt b9 w9 →
-      Does F (assume_stack_delta (down 1)) b9 w9 tt b10 w9 →
-      Does F (gen_ternary (kid_at F p 2) (kid_at F p 1) (kid_at F p 0)) b w tt b10 w9
+      Does F (mark_label q) b8 w8 tt b9 w9 →
+      Does F (assume_stack_delta (down 1)) b9 w9 tt b10 w10 →
+      Does F (gen_ternary (kid_at F p 2) (kid_at F p 1) (kid_at F p 0)) b w tt b10 w10
   ternary_arm {condition = condition} k-condition {yes' = yes'} k-yes' d1 d2 d3 d4 d5 d6 d7 d8 d9 d10 =
       record { same = rw (k-condition.meaning, k-yes'.meaning, after_bind, ← d1.same, carry_held, after_bind, ← d2.same, carry_held, after_then, ← d3.same, after_then, ← d4.same, after_then, ← d5.same, after_then, ← d6.same, after_then, ← d7.same, after_then, ← d8.same, after_then, ← d9.same, d10.same); fine = d10.fine; named = λ n. d10.named (d9.named (d8.named (d7.named (d6.named (d5.named (d4.named (d3.named (d2.named (d1.named n))))))))) }
 
@@ -584,54 +584,54 @@ module _ {F : List ℕ} (l : Layout) (p : Part) {b : BuilderState} {w : List ℕ
 -- constructs that end in others
 module _ {F : List ℕ} (l : Layout) (p : Part) {b : BuilderState} {w : List ℕ} where
   -- a switch that has a Case or a Default
-  pub switch_cases_arm : {b1 b2 b3 b4 b5 b6 : BuilderState} {w3 w4 w5 w6 : List ℕ} →
+  pub switch_cases_arm : {b1 b2 b3 b4 b5 b6 : BuilderState} {w1 w2 w3 w4 w5 w6 : List ℕ} {q : ℕ} (q1 : ℕ) →
       (lp inner : Loop) (default n : ℕ) →
       {es : Part} → IsList F l p 0 es →
-      Switching F p b.labels b1.labels default n →
-      inner ≡ record { break_label = some b.labels; continue_label = lp.continue_label } →
-      (has_case (elements_from b1.labels (list_at F p 0)) || has_default (elements_from b1.labels (list_at F p 0))) ≡ true →
-      Does F (create_label) b w b.labels b1 w →
-      Does F (with_labels (list_at F p 0)) b1 w (elements_from b1.labels (list_at F p 0)) b2 w →
-      Does F (select (kid_at F p 1) (elements_from b1.labels (list_at F p 0))) b2 w tt b3 w3 →
+      Switching F p q q1 default n →
+      inner ≡ record { break_label = some q; continue_label = lp.continue_label } →
+      (has_case (elements_from q1 (list_at F p 0)) || has_default (elements_from q1 (list_at F p 0))) ≡ true →
+      Does F (create_label) b w q b1 w1 →
+      Does F (with_labels (list_at F p 0)) b1 w1 (elements_from q1 (list_at F p 0)) b2 w2 →
+      Does F (select (kid_at F p 1) (elements_from q1 (list_at F p 0))) b2 w2 tt b3 w3 →
       Does F (jump default) b3 w3 tt b4 w4 →
-      Does F (each_of Element inner b1.labels default (meanings_at F es)) b4 w4 tt b5 w5 →
-      Does F (mark_label b.labels) b5 w5 tt b6 w6 →
+      Does F (each_of Element inner q1 default (meanings_at F es)) b4 w4 tt b5 w5 →
+      Does F (mark_label q) b5 w5 tt b6 w6 →
       Does F (gen_switch lp (kid_at F p 1) (list_at F p 0)) b w tt b6 w6
-  switch_cases_arm {b1 = b1} lp inner default n k-es s i h d1 d2 d3 d4 d5 d6 =
-      switch_arm l p lp d1 d2 (rw h (cases_arm l p lp inner b.labels b1.labels default n k-es s i d3 d4 d5 d6))
+  switch_cases_arm {q = q} q1 lp inner default n k-es s i h d1 d2 d3 d4 d5 d6 =
+      switch_arm l p q1 lp d1 d2 (rw h (cases_arm l p lp inner q q1 default n k-es s i d3 d4 d5 d6))
 
-  pub if_both_arm : {b1 b2 b3 b4 b5 b6 b7 b8 b9 b10 : BuilderState} {w2 w3 w5 w6 w7 w8 w9 w10 : List ℕ} →
+  pub if_both_arm : {b1 b2 b3 b4 b5 b6 b7 b8 b9 b10 : BuilderState} {w1 w2 w3 w4 w5 w6 w7 w8 w9 w10 : List ℕ} {q q3 : ℕ} →
       (lp : Loop) →
       {condition : Part} → IsKid F l p 2 condition →
       {yes' : Part} → IsKid F l p 1 yes' →
       present (kid_at F p 0).rec ≡ true →
-      Does F (create_label) b w b.labels b1 w →
-      Does F ((kid_at F condition 0).gen_expr false) b1 w tt b2 w2 →
+      Does F (create_label) b w q b1 w1 →
+      Does F ((kid_at F condition 0).gen_expr false) b1 w1 tt b2 w2 →
       Does F (action Not) b2 w2 tt b3 w3 →
-      Does F (create_label) b3 w3 b3.labels b4 w3 →
-      Does F (branch b3.labels) b4 w3 tt b5 w5 →
+      Does F (create_label) b3 w3 q3 b4 w4 →
+      Does F (branch q3) b4 w4 tt b5 w5 →
       Does F ((kid_at F yes' 0).gen_statement lp) b5 w5 tt b6 w6 →
-      Does F (jump b.labels) b6 w6 tt b7 w7 →
-      Does F (mark_label b3.labels) b7 w7 tt b8 w8 →
+      Does F (jump q) b6 w6 tt b7 w7 →
+      Does F (mark_label q3) b7 w7 tt b8 w8 →
       Does F ((kid_at F p 0).gen_statement lp) b8 w8 tt b9 w9 →
-      Does F (mark_label b.labels) b9 w9 tt b10 w10 →
+      Does F (mark_label q) b9 w9 tt b10 w10 →
       Does F (gen_if lp (kid_at F p 2) (kid_at F p 1) (kid_at F p 0)) b w tt b10 w10
-  if_both_arm lp k-condition k-yes' e d1 d2 d3 d4 d5 d6 d7 d8 d9 d10 =
-      let branches = both_arm l p lp b.labels k-yes' d4 d5 d6 d7 d8 d9 in
+  if_both_arm {q = q} lp k-condition k-yes' e d1 d2 d3 d4 d5 d6 d7 d8 d9 d10 =
+      let branches = both_arm l p lp q k-yes' d4 d5 d6 d7 d8 d9 in
       if_arm l p lp k-condition d1 d2 d3 (rw e branches) d10
 
-  pub if_one_arm : {b1 b2 b3 b4 b5 b6 : BuilderState} {w2 w3 w4 w5 w6 : List ℕ} →
+  pub if_one_arm : {b1 b2 b3 b4 b5 b6 : BuilderState} {w1 w2 w3 w4 w5 w6 : List ℕ} {q : ℕ} →
       (lp : Loop) →
       {condition : Part} → IsKid F l p 2 condition →
       {yes' : Part} → IsKid F l p 1 yes' →
       present (kid_at F p 0).rec ≡ false →
-      Does F (create_label) b w b.labels b1 w →
-      Does F ((kid_at F condition 0).gen_expr false) b1 w tt b2 w2 →
+      Does F (create_label) b w q b1 w1 →
+      Does F ((kid_at F condition 0).gen_expr false) b1 w1 tt b2 w2 →
       Does F (action Not) b2 w2 tt b3 w3 →
-      Does F (branch b.labels) b3 w3 tt b4 w4 →
+      Does F (branch q) b3 w3 tt b4 w4 →
       Does F ((kid_at F yes' 0).gen_statement lp) b4 w4 tt b5 w5 →
-      Does F (mark_label b.labels) b5 w5 tt b6 w6 →
+      Does F (mark_label q) b5 w5 tt b6 w6 →
       Does F (gen_if lp (kid_at F p 2) (kid_at F p 1) (kid_at F p 0)) b w tt b6 w6
-  if_one_arm lp k-condition k-yes' e d1 d2 d3 d4 d5 d6 =
-      let branches = one_arm l p lp b.labels k-yes' d4 d5 in
+  if_one_arm {q = q} lp k-condition k-yes' e d1 d2 d3 d4 d5 d6 =
+      let branches = one_arm l p lp q k-yes' d4 d5 in
       if_arm l p lp k-condition d1 d2 d3 (rw e branches) d6

@@ -12,6 +12,7 @@ use Rattle.builder.specs.Runs.{SameList}
 use Rattle.builder.proofs.Runs.{same_list_then}
 use Rattle.constants.specs.declared.context.ScriptContext.{ScriptContext}
 use Rattle.constants.specs.Acts.{Acts}
+use Rattle.leaves.specs.Args.{Pushes}
 use Rattle.statement.specs.Walk.{Walk, Walks}
 
 -- a context later on, over the same file and words
@@ -33,9 +34,12 @@ pub built : {c d : ScriptContext} {b : CodeBuilder} {l : d.script.layout ≡ lay
     SameList d.builder b → Goes c d → Goes c (record { script = d.script; builder = b; laid_out = l; indexed = x })
 built s g = record { script = g.script; same_list = same_list_then g.same_list s }
 
+pub pushed : {t left : Trees} {c r : ScriptContext} → Pushes t c left r → Goes c r
+pushed p = record { script = p.script; same_list = p.same_list }
+
 pub walks : {A : Type 0} {m : M A} {a : A} {t : Trees} {c r : ScriptContext} → Goes c r → Does (file_of t) m c.builder.state c.builder.list.now a r.builder.state r.builder.list.now → Walks t m c a r
 walks g d = record { script = g.script; same_list = g.same_list; does = d }
 
 -- the context and the trees of a later call
-pub walk : {t k : Trees} {c r : ScriptContext} {room : ℕ} → Goes c r → c.script ≡ t.script → k.script ≡ t.script → k.part.n ≤ room → Walk k r room
-walk g e q f = record { script = g.script ∙ e ∙ sym q; fits = f }
+pub walk : {k : Trees} {c r : ScriptContext} {room : ℕ} → Goes c r → c.script ≡ k.script → k.part.n ≤ room → Walk k r room
+walk g e f = record { script = g.script ∙ e; fits = f }

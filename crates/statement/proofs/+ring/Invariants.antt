@@ -4,7 +4,8 @@ use mathlib.Core.Path.{◌≡◌}
 use mathlib.Core.Bool.{cond}
 use lib.ListN.{length}
 use Rattle.rows.specs.Rows.{loop_of}
-use Rattle.leaves.specs.Args.{Args}
+use Rattle.leaves.specs.Args.{Pushes}
+use Rattle.statement.proofs.Walks.{Goes}
 use Rattle.statement.proofs.Lists.{PopInv}
 use Rattle.statement.proofs.+ring.Given as goal
 
@@ -15,7 +16,7 @@ abbrev pub decreases-args : goal.decreases-args
 decreases-args l = 8 * l.t.now.part.n + 3
 
 abbrev pub invariant-args-loop-left : goal.invariant-args-loop-left
-invariant-args-loop-left l = (l.left.script ≡ l.t.script) × Args l.t.script.bytes.now l.t.script.layout l.fn.list l.t.part l.fn.b l.list l.left.part l.cur × (length l.scratch ≡ length l.initial.scratch)
+invariant-args-loop-left l = Pushes l.t l.fn.context l.left l.context × (length l.scratch ≡ length l.initial.scratch)
 
 abbrev pub decreases-args-loop-left : goal.decreases-args-loop-left
 decreases-args-loop-left l = l.left.part.n
@@ -28,7 +29,8 @@ decreases-each l = 8 * l.t.now.part.n + 3
 
 abbrev pub invariant-each-loop-top : goal.invariant-each-loop-top
 invariant-each-loop-top l =
-    PopInv l.t.script.bytes.now l.t.script.layout l.what (loop_of l.lp) l.first l.default l.initial.list l.initial.scratch l.t.part.end l.start l.initial.cur l.list l.scratch l.top l.cur l.seen l.cases
+    PopInv l.t.script.bytes.now l.t.script.layout l.what (loop_of l.lp) l.first l.default l.initial.context.builder.list.now l.initial.scratch l.t.part.end l.start l.initial.context.builder.state
+    l.context.builder.list.now l.scratch l.top l.context.builder.state l.seen l.cases × Goes l.initial.context l.context
 
 abbrev pub decreases-ends : goal.decreases-ends
 decreases-ends l = 8 * l.t.now.part.n + 4
