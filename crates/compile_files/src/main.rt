@@ -3,9 +3,9 @@
 // Compiles script files that stand in a text, a line `NAME BYTES` for each, and prints NAME, the listing of its lists and its action bytes, or its refusal.
 // It also compiles each file again at the edges of what a call is lent.
 use crate::edges::{put_edges, put_sum};
-use listing_text::{LIST_WORDS, put_compiled};
 use listing_text::replay::replay;
 use listing_text::text::{Hex, put_refusal};
+use listing_text::{LIST_WORDS, put_compiled};
 use rascal::compile;
 use std::io;
 use std::io::{BufWriter, Write};

@@ -1,8 +1,8 @@
 #![tactic(auto)]
 
 // Prints the listing of the script file on standard input, or its refusal.
-use listing_text::{LIST_WORDS, put_compiled};
 use listing_text::text::put_refusal;
+use listing_text::{LIST_WORDS, put_compiled};
 use rascal::compile;
 use refusal::Refusal;
 use std::io;

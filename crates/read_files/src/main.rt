@@ -2,9 +2,9 @@
 
 // Reads action bytes that stand in a text, a line `NAME BYTES` for each, and prints NAME and the listing of their lists by place, or their refusal.
 use action_reader::read;
-use listing_text::{LIST_WORDS, put_read};
 use listing_text::replay::replay;
 use listing_text::text::put_refusal;
+use listing_text::{LIST_WORDS, put_read};
 use std::io;
 use std::io::{BufWriter, Write};
 
