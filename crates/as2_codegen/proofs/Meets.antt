@@ -2,11 +2,9 @@
 use Prim.Native.Nat.{ℕ, suc, ◌-◌, ◌≤◌, ◌<◌}
 use mathlib.Core.Path.{◌≡◌, refl, ap, sym, ◌∙◌}
 use mathlib.Core.List.{List}
-use mathlib.Core.Bool.{Bool}
 use mathlib.Core.Logic.{◌⊎◌, inl, inr}
 use native.Mathlib.Omega.{arith}
 use Rattle.std.proofs.Common.{lit≤}
-use lib.Dec.{eqb}
 use lib.ListN.{length}
 use borrow.Author.Tests.{lt-ltb, le-ltb}
 use Rattle.std.specs.Prelude as code
@@ -113,6 +111,9 @@ module _ {F : List ℕ} (accepted : check_of F ≡ 0) {p : Part} (is-part : p �
 
   pub generated_refusal : (w'' : List ℕ) → IsSome r.refused → {e : Refusal} → number_of e ≡ refusal_of r.refused → Generated F (Err e) w''
   generated_refusal w'' h {e} q = λ n room. refuses F n e (lowered_is n room ∙ refusal_is h ∙ ap refusal (sym q))
+
+pub the_words : {w w' v : List ℕ} → w' ≡ w → Copied w' v → Copied w v
+the_words e c = rw e at c
 
 -- the refusals before any statement
 
