@@ -6,7 +6,7 @@ ghost use Rattle.operators.specs.Shapes.{kind_shape, root_shape, constant_litera
 
 use hir::{ConstantKind, ExprKind, Record};
 
-// An expression before it is generated.
+// An expression before it is generated: the four shapes of the definition, of which Other is one.
 #[derive(Clone, Copy)]
 pub enum Shape {
     Constant(ConstantKind),

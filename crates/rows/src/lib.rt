@@ -13,7 +13,7 @@ pub mod ends;
 mod quiet;
 
 // Expressions for their values or for their effects; an object's fields; statements, those that are hoisted, and the others; the tests of a switch, and its
-// elements.
+// elements. An enum, and no closure for each: the functions that generate call each other in a ring, and a call through a closure gets no proof there.
 #[derive(Clone, Copy)]
 pub enum Each {
     Expr,
@@ -33,6 +33,7 @@ pub struct Loop {
     pub next: Option<Label>,
 }
 
+// A function, and no derived Default: its contract says what the definition calls no loop.
 pub fn no_loop() -> Loop
     ensures { loop_of result ≡ no_loop }
 {

@@ -46,7 +46,7 @@ fn passes(script: &ScriptFile, e: usize, lp: Loop) -> Option<usize>
 pub fn is_passed(tree: &Trees, lp: Loop, steps: u32) -> bool
     ensures { result ≡ of_passed (file_of tree.now) tree.now.script.layout steps (is_none lp.exit) (is_none lp.next) tree.now.part }
 {
-    let start = tree.rest().part.end;
+    let start = tree.start();
     let mut e = tree.part.end;
     for _ in 0..steps {
         if e <= start {

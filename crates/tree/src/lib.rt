@@ -10,8 +10,8 @@ ghost use Rattle.tree.specs.Within.{Within, IsKid, IsList};
 use decode::record_of;
 use hir::Record;
 use script_records::kind::Kind;
-use script_records::layout::{Layout, Row, ScriptFile};
-use script_records::part::{Part, last_tree};
+use script_records::layout::{Row, ScriptFile};
+use script_records::part::Part;
 
 // The last tree of a row: its record, the record's number, its children, and the trees before it. Of no tree the record is Absent.
 #[derive(Clone, Copy)]
@@ -23,8 +23,8 @@ pub struct Node<T> {
 }
 
 // The last tree of a part of any file's records.
-pub fn node_at(file: &[u8], l: Layout, p: Part) -> Node<Part>
-    ensures { result ≡ node_of file.now l p }
+pub fn node_at(script: &ScriptFile, p: Part) -> Node<Part>
+    ensures { result ≡ node_of script.now.bytes.now script.now.layout p }
 {
     if p.n == 0 {
         return Node {
@@ -34,7 +34,7 @@ pub fn node_at(file: &[u8], l: Layout, p: Part) -> Node<Part>
             before: p,
         };
     }
-    let t = last_tree(file, l, p);
+    let t = script.last_tree(p);
     let row = t.row;
     let root = record_of(row);
     let children = t.children;
@@ -142,19 +142,34 @@ impl<'a> Trees<'a> {
         }
     }
 
-    // The trees before the last. For sizes of one to three a branch lets the processor go on before the size is read.
+    // The trees before the last. For sizes of one to three a branch lets the processor go on before the size is read; a `match` would try the greatest first.
     pub fn rest(&self) -> Trees<'a>
         ensures { IsRest self.now result }
     {
         if self.is_empty() {
             return *self;
         }
-        match self.row().size {
-            1 => self.without(1),
-            2 => self.without(2),
-            3 => self.without(3),
-            size => self.without(size as usize),
+        let size = self.row().size;
+        if size == 1 {
+            return self.without(1);
         }
+        if size == 2 {
+            return self.without(2);
+        }
+        if size == 3 {
+            return self.without(3);
+        }
+        self.without(size as usize)
+    }
+
+    // The first record of the last tree.
+    pub fn start(&self) -> usize
+        ensures { result ≡ (node_of (file_of self.now) self.now.script.layout self.now.part).before.end }
+    {
+        if self.is_empty() {
+            return self.part.end;
+        }
+        self.part.end - self.row().size as usize
     }
 
     // The children of the last tree.
@@ -180,7 +195,7 @@ impl<'a> Trees<'a> {
         ensures before { result.before.script ≡ self.now.script }
         ensures node { parts_of result ≡ node_of (file_of self.now) self.now.script.layout self.now.part }
     {
-        let node = node_at(self.script.bytes, self.script.layout, self.part);
+        let node = node_at(&self.script, self.part);
         Node {
             root: node.root,
             number: node.number,
@@ -276,25 +291,4 @@ impl<'a> Iterator for Trees<'a> {
         *self = last.rest();
         Some(last)
     }
-}
-
-// The same at a part that is within an accepted file.
-fn trees_at<'a>(file: &'a [u8], l: Layout, p: Part) -> Trees<'a>
-    requires { Within file.now l p }
-    ensures { (result.script.bytes.now ≡ file.now) × (result.script.layout ≡ l) × (result.part ≡ p) }
-{
-    Trees {
-        script: ScriptFile {
-            bytes: file,
-            layout: l,
-        },
-        part: p,
-    }
-}
-
-pub fn list_at(file: &[u8], l: Layout, p: Part, n: u32) -> Part
-    requires { Within file.now l p }
-    ensures { IsList file.now l p n result }
-{
-    trees_at(file, l, p).list(n).part
 }

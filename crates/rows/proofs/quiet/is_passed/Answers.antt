@@ -9,14 +9,14 @@ pub loop-init : goal.loop-init
 loop-init c = (omega arith, let e : c.args.steps - 0 ≡ c.args.steps = omega arith in rw e)
 
 pub returns-then-e-start : goal.returns-then-e-start
-returns-then-e-start c = rw (← c.rest-start.ensures.part) (passed_end _ _ _ _ _ _ (omega arith) c.if-e-start.true ∙ sym c.loop.invariant.1)
+returns-then-e-start c = rw (← c.start-start.ensures) (passed_end _ _ _ _ _ _ (omega arith) c.if-e-start.true ∙ sym c.loop.invariant.1)
 
 pub passes-requires : goal.passes-requires
 passes-requires c = (omega arith, row_known _ _ _ c.args.tree.now.within _ (omega (arith, c.loop.invariant.0)))
 
 pub returns-in_default : goal.returns-in_default
 returns-in_default c =
-    rw (← c.rest-start.ensures.part) (passed_stop _ _ _ _ _ _ (omega arith) c.if-e-start.false c.passes.ensures c.in_default.is ∙ sym c.loop.invariant.1)
+    rw (← c.start-start.ensures) (passed_stop _ _ _ _ _ _ (omega arith) c.if-e-start.false c.passes.ensures c.in_default.is ∙ sym c.loop.invariant.1)
 
 pub loop-preserved : goal.loop-preserved
 loop-preserved c =
@@ -25,4 +25,4 @@ loop-preserved c =
     (omega (arith, c.loop.invariant.0), c.loop.invariant.1 ∙ passed_on _ _ _ _ _ _ (omega arith) c.if-e-start.false c.passes.ensures c.in-Some.is)
 
 pub returns : goal.returns
-returns c = rw (← c.rest-start.ensures.part) (passed_none _ _ _ _ _ _ (omega arith) ∙ sym c.loop.invariant.1)
+returns c = rw (← c.start-start.ensures) (passed_none _ _ _ _ _ _ (omega arith) ∙ sym c.loop.invariant.1)
