@@ -18,6 +18,7 @@ use codegen_state::Stop;
 use constants::context::ScriptContext;
 use hir::ConstantKind;
 use pcode::{Op, PushValue};
+use slice_words::NO_STRING;
 use special_properties::{get_special_property, is_null, is_undefined};
 
 #[derive(Clone, Copy)]
@@ -54,7 +55,7 @@ impl Access {
     {
         match get_special_property(context.text(name)) {
             Some(n) => {
-                context.push_string(0xffff_ffff);
+                context.push_string(NO_STRING);
                 context.builder.push(PushValue::Integer(n.cast_signed()));
                 Access::SpecialProperty
             }

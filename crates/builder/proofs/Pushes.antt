@@ -11,7 +11,8 @@ use Rattle.std.specs.Prelude.{IsNone}
 use Rattle.pcode.specs.Pcode.{Value, Action, Item}
 use Rattle.pcode.specs.declared.PushValue.{PushValue}
 use Rattle.lowering.specs.Builder.{push, join, ends_in_push}
-use Rattle.list_slice.specs.Entry.{Piece, Entry, entry_of, piece_of}
+use Rattle.list_slice.specs.Entry.{Piece, entry_of, piece_of}
+use Rattle.list_slice.specs.Entry as said
 use Rattle.list_slice.specs.Words.{entry_at, run}
 use Rattle.list_slice.specs.Items.{References, value_of, extended, added, gathered}
 use Rattle.list_slice.specs.File.{in_file}
@@ -21,7 +22,7 @@ use Rattle.codegen_state.specs.declared.BuilderState.{BuilderState}
 use Rattle.codegen_state.specs.View.{gather, open_of, pushed, value_in, named, state, carry, after}
 use Rattle.codegen_state.specs.Does.{Fine, Does}
 use Rattle.codegen_state.proofs.Steps.{held_holds}
-use Rattle.builder.specs.declared.entries.ValueWords.{ValueWords}
+use Rattle.slice_words.specs.declared.Entry.{Entry}
 use Rattle.builder.specs.Entries.{Grown}
 use Rattle.builder.specs.Values.{IsValue}
 use Rattle.builder.proofs.Codes.{is_value, value_from, value_to, value_code}
@@ -53,7 +54,7 @@ added_push r (Piece.function n f) is = refl
 added_push r (Piece.mark l) is = refl
 
 code_value : {b : BuilderState} {w : List ℕ} → Fine b w → (i : ℕ) → b.top ≤ i → i < 4096 → leb 0x110 (entry_at w i).code ≡ is_value (piece_of (entry_at w i))
-code_value {w = w} f i x y = ap (λ (e : Entry). leb 0x110 e.code) (sym (f.written_top i x y)) ∙ value_code (piece_of (entry_at w i))
+code_value {w = w} f i x y = ap (λ (e : said.Entry). leb 0x110 e.code) (sym (f.written_top i x y)) ∙ value_code (piece_of (entry_at w i))
 
 run_first : (w : List ℕ) (i n : ℕ) → i < n → run w i (n - i) ≡ entry_at w i ∷ run w (suc i) (n - suc i)
 unfolding run
@@ -143,13 +144,13 @@ module _ (F : List ℕ) (v : PushValue) {b : BuilderState} {w : List ℕ} (f : F
   unfolding push state
   push_no_action k j t n = refuses F (push (value_in F v)) tt TooMany f h (simp (lt-ltb b.values 2048 k, ← j, t, le-ltb b.actions 1024 n))
 
-module _ {v : PushValue} {b r : BuilderState} {w w' : List ℕ} {x : ValueWords} (f : Fine b w) (is : IsValue v x) (k : b.values < 2048) {t : Bool} (j : (F : List ℕ) → t ≡ ends_in_push (gather F (open_of b w))) where
-  module _ (e : t ≡ true) (g : Grown b w (0x120 + x.kind) x.first x.second 0 1 0 (b.size + 1) r w') where
+module _ {v : PushValue} {b r : BuilderState} {w w' : List ℕ} {x : Entry} (f : Fine b w) (is : IsValue v x) (k : b.values < 2048) {t : Bool} (j : (F : List ℕ) → t ≡ ends_in_push (gather F (open_of b w))) where
+  module _ (e : t ≡ true) (g : Grown b w (x.code + 16) x.first x.second 0 1 0 (b.size + 1) r w') where
     pub joins_fine : Fine r w'
     joins_fine =
         let room = room_value f k in
         rw (g.new, g.words)
-        (grown_fine [] (Piece.value false (pushed v)) f room (wrote_piece (Piece.value false (pushed v)) (is.words 0x120) f room) 0 1 0 (b.size + 1) (omega arith) (omega (arith, f.actions)) (omega arith) (omega (arith, f.marks)) (omega (arith, f.size))
+        (grown_fine [] (Piece.value false (pushed v)) f room (wrote_piece (Piece.value false (pushed v)) is.later f room) 0 1 0 (b.size + 1) (omega arith) (omega (arith, f.actions)) (omega arith) (omega (arith, f.marks)) (omega (arith, f.size))
         (λ q. joins_where [] f (sym (j []) ∙ e)))
 
     pub push_joins : (F : List ℕ) → T (named F v) → IsNone b.refused → Does F (push (value_in F v)) b w tt r w'
@@ -157,7 +158,7 @@ module _ {v : PushValue} {b r : BuilderState} {w w' : List ℕ} {x : ValueWords}
     push_joins F good h =
         let p = Piece.value false (pushed v) in
         let room = room_value f k in
-        let wr = wrote_piece p (is.words 0x120) f room in
+        let wr = wrote_piece p is.later f room in
         let full = open_filled F f (sym (j F) ∙ e) in
         rw (g.new, g.words) (record {
           same = rw (grown_held F p f room wr 0 1 0 (b.size + 1) h, held_holds F (tt {0}) b w h, lt-ltb b.values 2048 k, ← j F, e, (later_joins (value_in F v) (gather F (open_of b w)) full).0);
@@ -165,12 +166,12 @@ module _ {v : PushValue} {b r : BuilderState} {w w' : List ℕ} {x : ValueWords}
           named = grown_named F p f room wr 0 1 0 (b.size + 1) (and_true F (named F v) good);
         })
 
-  module _ (e : t ≡ false) (n : b.actions < 1024) (g : Grown b w (0x110 + x.kind) x.first x.second 1 1 0 (b.size + 1) r w') where
+  module _ (e : t ≡ false) (n : b.actions < 1024) (g : Grown b w x.code x.first x.second 1 1 0 (b.size + 1) r w') where
     pub begins_fine : Fine r w'
     begins_fine =
         let room = room_value f k in
         rw (g.new, g.words)
-        (grown_fine [] (Piece.value true (pushed v)) f room (wrote_piece (Piece.value true (pushed v)) (is.words 0x110) f room) 1 1 0 (b.size + 1) (omega arith) (omega arith) (omega arith) (omega (arith, f.marks)) (omega (arith, f.size))
+        (grown_fine [] (Piece.value true (pushed v)) f room (wrote_piece (Piece.value true (pushed v)) is.first f room) 1 1 0 (b.size + 1) (omega arith) (omega arith) (omega arith) (omega (arith, f.marks)) (omega (arith, f.size))
         (λ q. absurd (omega (arith, value_to 0x110 (pushed v)))))
 
     pub push_begins : (F : List ℕ) → T (named F v) → IsNone b.refused → Does F (push (value_in F v)) b w tt r w'
@@ -178,7 +179,7 @@ module _ {v : PushValue} {b r : BuilderState} {w w' : List ℕ} {x : ValueWords}
     push_begins F good h =
         let p = Piece.value true (pushed v) in
         let room = room_value f k in
-        let wr = wrote_piece p (is.words 0x110) f room in
+        let wr = wrote_piece p is.first f room in
         rw (g.new, g.words) (record {
           same = rw (
             grown_held F p f room wr 1 1 0 (b.size + 1) h,

@@ -1,9 +1,10 @@
 // Actions, pushes, marks and the tracked stack size (`builder.rs`).
 ghost use Rattle.codegen_state.specs.Does.{Fine, Fine-prop};
 
-use crate::entries::{grow, grow_marked, value_words};
-use codegen_state::{BuilderState, LABELS, LATER_VALUE, MAX_ACTIONS, MAX_VALUES, PUSH, Stop};
+use crate::entries::{grow, grow_marked, value_entry};
+use codegen_state::{BuilderState, LABELS, MAX_ACTIONS, MAX_VALUES, Stop};
 use pcode::{Label, Op, PushValue, row_of};
+use slice_words::code;
 
 // The lists under construction, in the lent words of the list slice and the pool's index.
 #[derive(Drop)]
@@ -74,20 +75,20 @@ impl CodeBuilder<'_> {
     pub fn store_register(&mut self, register: u8)
         ensures { (F : List ℕ) → Runs F (access.store_register register) self.old tt self.new }
     {
-        self.emit(0x87, u32::from(register), self.state.size);
+        self.emit(code::STORE_REGISTER, u32::from(register), self.state.size);
     }
 
     pub fn goto_frame(&mut self, frame: u32)
         ensures { (F : List ℕ) → Runs F (plain_action (GotoFrame frame) (Delta.up 0)) self.old tt self.new }
     {
-        self.emit(0x81, frame, self.state.size);
+        self.emit(code::GOTO_FRAME, frame, self.state.size);
     }
 
     pub fn goto_frame2(&mut self, play: bool)
         ensures { (F : List ℕ) → Runs F (plain_action (GotoFrame2 play) (Delta.down 1)) self.old tt self.new }
     {
         let size = self.state.size.saturating_sub(1);
-        self.emit(0x9F, u32::from(play), size);
+        self.emit(code::GOTO_FRAME_2, u32::from(play), size);
     }
 
     // The string is a reference, and is not pooled.
@@ -96,20 +97,20 @@ impl CodeBuilder<'_> {
         ensures runs { (F : List ℕ) → T (names_string F string) →
             Runs F (plain_action (GotoLabel (text_in F string)) (Delta.up 0)) self.old tt self.new }
     {
-        self.emit(0x8C, string, self.state.size);
+        self.emit(code::GOTO_LABEL, string, self.state.size);
     }
 
     pub fn jump(&mut self, label: Label)
         ensures { (F : List ℕ) → Runs F (statement.jump label.0) self.old tt self.new }
     {
-        self.emit(0x99, label.0, self.state.size);
+        self.emit(code::JUMP, label.0, self.state.size);
     }
 
     pub fn branch(&mut self, label: Label)
         ensures { (F : List ℕ) → Runs F (statement.branch label.0) self.old tt self.new }
     {
         let size = self.state.size.saturating_sub(1);
-        self.emit(0x9D, label.0, size);
+        self.emit(code::IF, label.0, size);
     }
 
     // Whether the last item is a Push, which a value joins.
@@ -117,7 +118,7 @@ impl CodeBuilder<'_> {
         ensures { (F : List ℕ) → result ≡ ends_in_push (gather F (open_of self.now.state self.now.list.now)) }
     {
         let top = self.state.top;
-        top < self.state.base && PUSH <= self.list[top * 3]
+        top < self.state.base && code::FIRST_VALUE <= self.list[top * 3]
     }
 
     pub fn push(&mut self, v: PushValue)
@@ -131,7 +132,7 @@ impl CodeBuilder<'_> {
             self.state.refused = Some(Stop::TooMany);
             return;
         }
-        let x = value_words(v);
+        let x = value_entry(v);
         let size = self.state.size + 1;
         if self.joins() {
             let list = &mut *self.list;
@@ -139,7 +140,7 @@ impl CodeBuilder<'_> {
             grow(
                 list,
                 state,
-                LATER_VALUE + x.kind,
+                x.code + (code::LATER_VALUE - code::FIRST_VALUE),
                 x.first,
                 x.second,
                 0,
@@ -155,7 +156,7 @@ impl CodeBuilder<'_> {
         }
         let list = &mut *self.list;
         let state = &mut self.state;
-        grow(list, state, PUSH + x.kind, x.first, x.second, 1, 1, 0, size);
+        grow(list, state, x.code, x.first, x.second, 1, 1, 0, size);
     }
 
     // Only ever down: after a ternary one of two values is there.

@@ -4,8 +4,9 @@ ghost use Rattle.codegen_state.specs.Does.{Fine};
 ghost use Rattle.builder.specs.Entries.{put3, Grown, Marked};
 ghost use Rattle.builder.specs.Values.{IsValue};
 
-use codegen_state::{BuilderState, LABELS, MARK};
+use codegen_state::{BuilderState, LABELS};
 use pcode::PushValue;
+use slice_words::{Entry, code};
 
 pub fn put(list: &mut [u32], i: usize, code: u32, first: u32, second: u32)
     requires { i * 3 + 2 < length list.old }
@@ -52,41 +53,27 @@ pub(crate) fn grow_marked(list: &mut [u32], state: &mut BuilderState, label: u32
     ensures { Marked state.old list.old label state.new list.new }
 {
     let size = state.size;
-    grow(list, state, MARK, label, 0, 0, 0, 1, size);
+    grow(list, state, code::MARK, label, 0, 0, 0, 1, size);
     list[LABELS + label as usize] = 1;
 }
 
-// A value's type number and its two words.
-#[derive(Clone, Copy)]
-pub(crate) struct ValueWords {
-    pub kind: u32,
-    pub first: u32,
-    pub second: u32,
-}
-
-impl ValueWords {
-    fn new(kind: u32, first: u32, second: u32) -> ValueWords
-        ensures { result ≡ record { kind = kind; first = first; second = second } }
-    {
-        ValueWords {
-            kind,
-            first,
-            second,
-        }
-    }
-}
-
-pub(crate) fn value_words(v: PushValue) -> ValueWords
+// The entry of the first value of a Push; a later one has a higher code.
+pub(crate) fn value_entry(v: PushValue) -> Entry
     ensures { IsValue v result }
 {
-    match v {
-        PushValue::String(s) => ValueWords::new(0, s, 0),
-        PushValue::Null => ValueWords::new(2, 0, 0),
-        PushValue::Undefined => ValueWords::new(3, 0, 0),
-        PushValue::Register(r) => ValueWords::new(4, u32::from(r), 0),
-        PushValue::Boolean(x) => ValueWords::new(5, u32::from(x), 0),
-        PushValue::Float(low, high) => ValueWords::new(6, low, high),
-        PushValue::Integer(n) => ValueWords::new(7, n.cast_unsigned(), 0),
-        PushValue::Constant(i) => ValueWords::new(8, i, 0),
+    let (code, first, second) = match v {
+        PushValue::String(s) => (code::STRING, s, 0),
+        PushValue::Null => (code::NULL, 0, 0),
+        PushValue::Undefined => (code::UNDEFINED, 0, 0),
+        PushValue::Register(r) => (code::REGISTER, u32::from(r), 0),
+        PushValue::Boolean(x) => (code::BOOLEAN, u32::from(x), 0),
+        PushValue::Float(low, high) => (code::FLOAT, low, high),
+        PushValue::Integer(n) => (code::INTEGER, n.cast_unsigned(), 0),
+        PushValue::Constant(i) => (code::CONSTANT, i, 0),
+    };
+    Entry {
+        code,
+        first,
+        second,
     }
 }

@@ -9,18 +9,16 @@ ghost use Rattle.builder.specs.Places.{Copied, Cleared, placed, placed_at, actio
 
 use crate::entries::put;
 use crate::move_list::move_list;
-use codegen_state::{
-    BuilderState, CONSTANT_POOL, LABELS, LATER_VALUE, LIST_ENDS, MARK, MAX_ENTRIES, MAX_LABELS,
-    PUSH,
-};
+use codegen_state::{BuilderState, LABELS, MAX_ENTRIES, MAX_LABELS};
 use pcode::{Label, Position};
+use slice_words::{ENDS_AT, code};
 
 // Until now a label's word says only that it is marked.
 fn clear_labels(list: &mut [u32])
     requires { 13312 ≤ length list.old }
     ensures { Cleared list.old list.new }
 {
-    list[LABELS..LIST_ENDS].fill(0);
+    list[LABELS..ENDS_AT].fill(0);
 }
 
 // A label's word is its position plus 1, so that 0 says that no list marks it.
@@ -48,7 +46,7 @@ fn set_place_at(list: &mut [u32], i: usize, p: Position)
     ensures { list.new ≡ placed_at list.old i p.0 }
 {
     let at = i * 3;
-    if list[at] != MARK {
+    if list[at] != code::MARK {
         return;
     }
     let label = Label(list[at + 1]);
@@ -59,13 +57,13 @@ fn set_place_at(list: &mut [u32], i: usize, p: Position)
 fn actions_added(code: u32, before: u32) -> u32
     ensures { result ≡ actions_added code before }
 {
-    if code == MARK {
+    if code == code::MARK {
         return 0;
     }
-    if code < LATER_VALUE {
+    if code < code::LATER_VALUE {
         return 1;
     }
-    if before < PUSH {
+    if before < code::FIRST_VALUE {
         return 1;
     }
     0
@@ -93,7 +91,7 @@ fn function_positions(list: &mut [u32], lists: usize)
 {
     let mut from: usize = 0;
     for i in 0..lists {
-        let end = list[LIST_ENDS + i] as usize;
+        let end = list[ENDS_AT + i] as usize;
         label_positions(list, from, end);
         from = end;
     }
@@ -108,9 +106,9 @@ pub fn into_actions(list: &mut [u32], state: BuilderState)
 {
     let low = move_list(list, state.low, state.top, MAX_ENTRIES);
     let lists = state.lists as usize;
-    list[LIST_ENDS + lists] = low as u32;
+    list[ENDS_AT + lists] = low as u32;
     clear_labels(list);
     label_positions(list, state.low, low);
     function_positions(list, lists);
-    put(list, low - 1, CONSTANT_POOL, state.constants, 0);
+    put(list, low - 1, code::CONSTANT_POOL, state.constants, 0);
 }

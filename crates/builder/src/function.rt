@@ -10,7 +10,8 @@ ghost use Rattle.builder.specs.Runs.{Keeps, EndsList};
 use crate::builder::CodeBuilder;
 use crate::entries::put;
 use crate::move_list::move_list;
-use codegen_state::{BuilderState, FUNCTION, LIST_ENDS, MAX_ACTIONS, Stop};
+use codegen_state::{BuilderState, MAX_ACTIONS, Stop};
+use slice_words::{ENDS_AT, code};
 
 // The list that waits for a function's list to end: its first entry, and its stack size.
 #[derive(Clone, Copy)]
@@ -68,7 +69,7 @@ fn close(list: &mut [u32], state: &mut BuilderState, outer: Outer, number: u32, 
 {
     let end = state.base;
     let low = move_list(list, state.low, state.top, end);
-    list[LIST_ENDS + state.lists as usize] = low as u32;
+    list[ENDS_AT + state.lists as usize] = low as u32;
     state.actions += 1;
     state.lists += 1;
     state.size = outer.size + up;
@@ -76,5 +77,5 @@ fn close(list: &mut [u32], state: &mut BuilderState, outer: Outer, number: u32, 
     state.low = low;
     state.top = end - 1;
     state.base = outer.base;
-    put(list, state.top, FUNCTION, state.lists, number);
+    put(list, state.top, code::FUNCTION, state.lists, number);
 }

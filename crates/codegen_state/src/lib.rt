@@ -4,36 +4,16 @@
 ghost use Rattle.std.specs.Prelude.{◌≡◌};
 ghost use Rattle.codegen_state.specs.Stop.{number_of};
 
-// The areas of the list slice by their first words: labels, list ends, the pool, and behind the slice the heads and the links of the pool's index.
+// Areas by their first words: labels, and behind the slice the heads and the links of the pool's index.
 pub const LABELS: usize = 12288;
-
-pub const LIST_ENDS: usize = 13312;
-
-pub const POOL: usize = 14336;
-
 pub const HEADS: usize = 16384;
-
 pub const LINKS: usize = 18432;
 
 // The slice's entries, and document 01's limits.
 pub const MAX_ENTRIES: usize = 4096;
-
 pub const MAX_ACTIONS: u32 = 1024;
-
 pub const MAX_VALUES: u32 = 2048;
-
 pub const MAX_LABELS: u32 = 1024;
-
-// The codes of entries other than actions without operands: the pool, a function, a mark, the first value of a Push and a later one of type 0.
-pub const CONSTANT_POOL: u32 = 0x88;
-
-pub const FUNCTION: u32 = 256;
-
-pub const MARK: u32 = 257;
-
-pub const PUSH: u32 = 0x110;
-
-pub const LATER_VALUE: u32 = 0x120;
 
 // Why no step is done any more. The discriminants are the refusals' numbers; no script of ours marks a label twice.
 #[derive(Clone, Copy, Debug, PartialEq, Eq)]

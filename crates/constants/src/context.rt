@@ -7,9 +7,10 @@ ghost use Rattle.constants.specs.Pool.{Added};
 
 use crate::bucket;
 use builder::builder::CodeBuilder;
-use codegen_state::{HEADS, LINKS, POOL};
+use codegen_state::{HEADS, LINKS};
 use pcode::PushValue;
 use script_records::layout::ScriptFile;
+use slice_words::{POOL_AT, text};
 use special_properties::same_bytes;
 
 // The script's file and the builder of its lists; the index of the pool is that of the file's strings.
@@ -36,10 +37,7 @@ impl<'a> ScriptContext<'a> {
     pub fn text(&self, s: u32) -> &'a [u8]
         ensures { result.now ≡ text_in self.now.script.bytes.now s }
     {
-        if s == 0xffff_ffff {
-            return &self.script.bytes[0..0];
-        }
-        self.script.string(s as usize)
+        text(&self.script, s)
     }
 
     // Whether a string of the pool is the one sought: the same reference is the same string.
@@ -62,7 +60,7 @@ impl<'a> ScriptContext<'a> {
         while next != 0 {
             let i = next - 1;
             let at = i as usize;
-            if self.same_text(sought, s, list[POOL + at]) {
+            if self.same_text(sought, s, list[POOL_AT + at]) {
                 found = Some(i);
             }
             next = list[LINKS + at];
@@ -119,7 +117,7 @@ fn add(b: &mut CodeBuilder, s: u32, size: u32, h: u32)
     let n = state.constants as usize;
     let head = HEADS + h as usize;
     let before = list[head];
-    list[POOL + n] = s;
+    list[POOL_AT + n] = s;
     list[LINKS + n] = before;
     list[head] = state.constants + 1;
     state.constants += 1;

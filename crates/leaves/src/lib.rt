@@ -34,6 +34,7 @@ use operators::shape::Shape;
 use pcode::{Label, Op, PushValue};
 use script_records::kind::Kind;
 use script_records::layout::ScriptFile;
+use slice_words::NO_STRING;
 use tree::{Counts, Element, Trees};
 
 // An assignment whose value is discarded, or wanted.
@@ -196,7 +197,7 @@ pub fn name_of(root: Record) -> u32
     match root {
         Record::ObjectField(key) => key,
         Record::Parameter { name, .. } => name,
-        _ => 0xffff_ffff,
+        _ => NO_STRING,
     }
 }
 
