@@ -53,7 +53,7 @@ impl Lists<'_> {
     }
 
     // The offsets of a list's branches, and whether each reaches its place.
-    pub fn resolve_list(&self, j: usize, places: &Places, offsets: &mut [u32; 4096]) -> bool
+    pub(crate) fn resolve_list(&self, j: usize, places: &Places, offsets: &mut [u32; 4096]) -> bool
         requires { j < self.now.count }
         ensures { let w = self.now.list.now in let from = start_of w j in let end = end_of w j in
             (F ss : List ℕ) (f : ℕ → ℕ) → Standing F w from end → ReadyList F w from end ss f places.now.starts places.now.labels →

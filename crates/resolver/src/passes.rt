@@ -9,19 +9,19 @@ use refusal::Refusal;
 
 // Tables of fixed length, since there is no heap. Of one list, where the actions begin, by their positions, and after them the list's end; and the labels' positions.
 #[derive(Drop)]
-pub struct Places {
+pub(crate) struct Places {
     pub starts: [u32; 4097],
     pub labels: [u32; 1024],
 }
 
 impl Places {
-    pub fn place_of(&self, l: Label) -> Position
+    pub(crate) fn place_of(&self, l: Label) -> Position
         ensures { result.0 ≡ get_or self.now.labels l.0 0 }
     {
         Position(word_of(&self.labels, l.0))
     }
 
-    pub fn start_of(&self, p: Position) -> ByteOffset
+    pub(crate) fn start_of(&self, p: Position) -> ByteOffset
         ensures { result.0 ≡ get_or self.now.starts p.0 0 }
     {
         ByteOffset(word_of(&self.starts, p.0))
@@ -37,7 +37,7 @@ pub struct Tables {
 
 // One list: its body's bytes, and whether its branches reach. A branch that doesn't is refused only if no list is too long.
 #[derive(Clone, Copy)]
-pub struct Body {
+pub(crate) struct Body {
     pub bytes: u32,
     pub near: bool,
 }
@@ -52,7 +52,7 @@ fn number_at(n: usize, j: usize) -> usize
 
 impl Lists<'_> {
     // No string of any list has a zero byte.
-    pub fn clear_lists(&self) -> bool
+    pub(crate) fn clear_lists(&self) -> bool
         ensures { result ≡ clear_lists self.now.script.bytes.now self.now.list.now self.now.count }
     {
         let mut clear = true;
@@ -79,7 +79,7 @@ impl Lists<'_> {
     }
 
     // Fills the tables, or refuses a record or a body for its bytes, or a branch for its distance.
-    pub fn measure_lists(&self, tables: &mut Tables) -> Result<(), Refusal>
+    pub(crate) fn measure_lists(&self, tables: &mut Tables) -> Result<(), Refusal>
         ensures { (s : Sized self.now.script.bytes.now self.now.list.now) → Passed s tables.new.sizes tables.new.offsets result }
     {
         let mut places = Places {

@@ -166,7 +166,7 @@ impl Lists<'_> {
     }
 
     // The data that an entry adds to its record; that of a function without its body.
-    pub fn entry_data(&self, e: usize) -> Data
+    pub(crate) fn entry_data(&self, e: usize) -> Data
         requires { Known self.now.script.bytes.now self.now.list.now e }
         ensures { result ≡ entry_data self.now.script.bytes.now self.now.list.now (entry_at self.now.list.now e) }
     {

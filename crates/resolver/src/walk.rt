@@ -109,7 +109,12 @@ impl Lists<'_> {
     }
 
     // The records of a list and where each begins: none if one is too long.
-    pub fn walk_list(&self, j: usize, sizes: &[u32; 1024], starts: &mut [u32; 4097]) -> Option<Walk>
+    pub(crate) fn walk_list(
+        &self,
+        j: usize,
+        sizes: &[u32; 1024],
+        starts: &mut [u32; 4097],
+    ) -> Option<Walk>
         requires { j < self.now.count }
         ensures { let w = self.now.list.now in
             Walked (bodies sizes.now) (walked self.now.script.bytes.now w (start_of w j) (end_of w j - start_of w j)) result starts.new }
@@ -124,7 +129,7 @@ impl Lists<'_> {
     }
 
     // No string of a list has a zero byte.
-    pub fn clear_list(&self, j: usize) -> bool
+    pub(crate) fn clear_list(&self, j: usize) -> bool
         requires { j < self.now.count }
         ensures { let w = self.now.list.now in
             result ≡ all_clear (walked self.now.script.bytes.now w (start_of w j) (end_of w j - start_of w j)) }
@@ -149,7 +154,7 @@ impl Lists<'_> {
     }
 
     // The positions of the labels that a list marks.
-    pub fn mark_list(&self, j: usize, places: &mut [u32; 1024])
+    pub(crate) fn mark_list(&self, j: usize, places: &mut [u32; 1024])
         requires { j < self.now.count }
         ensures { let w = self.now.list.now in (F : List ℕ) → Standing F w (start_of w j) (end_of w j) →
             Placed (walked F w (start_of w j) (end_of w j - start_of w j)) places.new }
