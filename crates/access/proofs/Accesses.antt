@@ -3,7 +3,7 @@ use Prim.Native.Nat.{ℕ, ◌+◌, ◌≤◌}
 use mathlib.Core.Path.{◌≡◌, refl}
 use mathlib.Core.Bool.{Bool, true, false}
 use mathlib.Core.List.{List, []}
-use mathlib.Core.Option.{none, some}
+use Rattle.std.specs.Prelude.{None, Some}
 use native.Mathlib.Omega.{arith}
 use lib.Dec.{T}
 use lib.ListN.{length}
@@ -45,11 +45,11 @@ module _ (F : List ℕ) {b r : CodeBuilder} {w w' : List ℕ} where
       Does F (for_name (same_bytes (text_in F s) null) (same_bytes (text_in F s) undefined) (text_in F s)) b w Variable r w'
   other_name s e q d = rw (e, q) (leaves (push_string (text_in F s)) Variable d)
 
-  pub property : {b1 : CodeBuilder} {w1 : List ℕ} (s : ℕ) {n : ℕ} → some n ≡ get_special_property (text_in F s) →
+  pub property : {b1 : CodeBuilder} {w1 : List ℕ} (s : ℕ) {n : ℕ} → Some n ≡ get_special_property (text_in F s) →
       Does F (push_string (text_in F 4294967295)) b w tt b1 w1 → Does F (push (Integer n)) b1 w1 tt r w' → Does F (for_identifier (text_in F s)) b w SpecialProperty r w'
   property s {n} e d k = rw (← e) (leaves (push_string [] >> push (Integer n)) SpecialProperty (row (push_string []) (push (Integer n)) (rw (no_text_lem F) at d) k))
 
-  pub no_property : (s : ℕ) {a : Access} → none ≡ get_special_property (text_in F s) →
+  pub no_property : (s : ℕ) {a : Access} → None ≡ get_special_property (text_in F s) →
       Does F (for_name (same_bytes (text_in F s) null) (same_bytes (text_in F s) undefined) (text_in F s)) b w a r w' → Does F (for_identifier (text_in F s)) b w a r w'
   no_property s e d = rw (← e) d
 

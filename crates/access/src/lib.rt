@@ -21,7 +21,7 @@ use constants::{push_string, text};
 use hir::ConstantKind;
 use pcode::{Op, PushValue};
 use script_records::layout::Layout;
-use special_properties::{Property, get_special_property, is_null, is_undefined};
+use special_properties::{get_special_property, is_null, is_undefined};
 
 #[derive(Clone, Copy)]
 pub enum Access {
@@ -92,9 +92,8 @@ pub fn for_identifier(
         Does file.now (for_identifier (text_in file.now name)) b list.old (access_of result.access) result.b list.new }
 {
     let s = text(file, l, name);
-    let p = get_special_property(s);
-    match p {
-        Property::Number(n) => {
+    match get_special_property(s) {
+        Some(n) => {
             let v = small(n);
             let b1 = push_string(file, l, list, b, 0xffff_ffff);
             let b2 = push(list, b1, PushValue::Integer(v));
@@ -103,7 +102,7 @@ pub fn for_identifier(
                 access: Access::SpecialProperty,
             }
         }
-        Property::None => for_name(file, l, list, b, name),
+        None => for_name(file, l, list, b, name),
     }
 }
 

@@ -6,8 +6,9 @@ use mathlib.Core.Bool.{Bool, true, false, ◌&&◌, true≢false}
 use mathlib.Core.Option.{Option, none, some}
 use native.Mathlib.Omega.{arith}
 use lib.Dec.{T}
-use lib.ListN.{length, set, take, length-set}
-use lib.Seq.{take_all, take-suc-set, get_or-set_same}
+use lib.ListN.{length, take, length-replicate}
+use lib.Seq.{take_all}
+use Rattle.std.proofs.Common.{Some, None, Bor}
 use Rattle.hir.specs.Hir.{Str}
 use Rattle.utf8.specs.Utf8.{utf8}
 use Rattle.pcode.specs.Pcode.{Header, op, ConstantPool, StoreRegister, GotoFrame, GotoFrame2, GotoLabel, plain}
@@ -32,11 +33,11 @@ use Rattle.record_reader.specs.declared.Head.{Head}
 use Rattle.record_reader.specs.Heads.{record_kind, record_holds_in, head_at}
 use Rattle.record_reader.proofs.Laws.{RecordAt}
 use Rattle.record_reader.proofs.ReadFacts.{record_no_zeros}
+use Rattle.action_reader.specs.declared.walk.Span.{Span}
 use Rattle.action_reader.specs.declared.walk.Walk.{Walk}
 use Rattle.action_reader.specs.Walk.{Spread, spread, spread_of, finish, resume, raw, fixed, sure, fixed_list, sure_list}
-use Rattle.action_reader.specs.State.{fresh_walk}
+use Rattle.action_reader.specs.State.{no_span, fresh_walk}
 use Rattle.action_reader.specs.View.{Held, Laid, Noted, Stands}
-use Rattle.action_reader.specs.Walked.{Walked, going}
 use Rattle.action_reader.proofs.Steps.{step_single}
 use Rattle.action_reader.proofs.Slice.{layout_start, grows}
 use Rattle.action_reader.proofs.Lands.{froms}
@@ -44,7 +45,7 @@ use Rattle.action_reader.proofs.Raw.{raw_last, raw_none}
 use Rattle.action_reader.proofs.Spreads.{lists_within}
 use Rattle.action_reader.proofs.Judge.{decoded}
 use Rattle.action_reader.proofs.Verdict.{top_of}
-use Rattle.action_reader.proofs.Heads.{Told, nothing, there, told, pool_told, IsPool}
+use Rattle.action_reader.proofs.Heads.{Told, there, told, untold, pool_told, IsPool}
 use Rattle.action_reader.proofs.Stepping.{limits}
 
 -- lists that are read begin with a pool
@@ -162,7 +163,10 @@ no_lists b h = go (decode limits b) refl
     go none q = refl
     go (some l) q = absurd (h (first_record b l q))
 
-module _ (b : Bytes) (hd : Head) (e : hd ≡ head_at b 0 0) where
+pub begin_none : (b : Bytes) → None ≡ head_at b 0 0 → decode limits b ≡ none
+begin_none b e = no_lists b (λ x. never _ (sym (untold b 0 0 e) ∙ x.is))
+
+module _ (b : Bytes) (hd : Head) (e : Some hd ≡ head_at b 0 0) where
   first_told : Told b 0 0 hd
   first_told = told b 0 0 hd (omega arith) e
 
@@ -170,7 +174,6 @@ module _ (b : Bytes) (hd : Head) (e : hd ≡ head_at b 0 0) where
   told_pool f = go first_told
     where
       go : Told b 0 0 hd → (hd.fits ≡ true) × ((n : ℕ) × (hd.kind ≡ kind.Pool n))
-      go (nothing q x y) = never _ (sym q ∙ f.is)
       go (there x r q kd nx ft ra) =
           let s : x ≡ alone (simple (ConstantPool f.strings')) = ap (λ (z : Record × Bytes). z.0) (some_of (sym q ∙ f.is)) in
           (ft ∙ ap (record_holds_in 0) s ∙ is_true (all utf8 f.strings') f.texts, (length f.strings', kd ∙ ap (record_kind 0) s))
@@ -189,10 +192,13 @@ pool_at_lem ss = at (plain (ConstantPool ss)) 0
 one_at_first : {i : ℕ} → i < 1 → i ≡ 0
 one_at_first h = omega arith
 
-module _ (b w t o : List ℕ) (ss : List Str) (r : Bytes) (q : read_record b ≡ some (alone (simple (ConstantPool ss)), r)) (ra : RecordAt b 0 (alone (simple (ConstantPool ss))) r) (texts : T (all utf8 ss))
-    (next : ℕ) (n : next ≡ 0 + length (single_bytes (simple (ConstantPool ss)))) (long : 16384 ≤ length w) (zeros : w ≡ zeros_of (length w)) (t-long : length t ≡ 1024) (o-long : length o ≡ 3072) where
+module _ (bs : Bor Bytes) (w : List ℕ) (ss : List Str) (r : Bytes) (q : read_record bs.now ≡ some (alone (simple (ConstantPool ss)), r)) (ra : RecordAt bs.now 0 (alone (simple (ConstantPool ss))) r) (texts : T (all utf8 ss))
+    (next : ℕ) (n : next ≡ 0 + length (single_bytes (simple (ConstantPool ss)))) (long : 16384 ≤ length w) (zeros : w ≡ zeros_of (length w)) where
+  abbrev b : Bytes
+  b = bs.now
+
   abbrev s : Walk
-  s = fresh_walk (length b) next (length ss)
+  s = fresh_walk bs next (length ss)
 
   whole_bytes : take (length b) b ≡ b
   whole_bytes = take_all (length b) b (omega arith)
@@ -232,42 +238,40 @@ module _ (b w t o : List ℕ) (ss : List Str) (r : Bytes) (q : read_record b ≡
         fewer = omega arith;
       }
 
-  begin_noted : {t' : List ℕ} → t' ≡ set t 0 0 → Noted t' s [] (pool_at_lem ss ∷ [])
-  begin_noted e = rw e (record {
-    long = length-set t 0 0 ∙ t-long;
-    table = take-suc-set t 0 0 (omega (arith, t-long));
+  begin_noted : Noted s [] (pool_at_lem ss ∷ [])
+  begin_noted = record {
+    long = length-replicate {A = ℕ} 1024 0;
+    table = refl;
     first = refl;
     places = omega arith;
     few = omega arith;
     rising = λ i j a x y. absurd (omega arith);
-    below = λ i a. rw (one_at_first a, get_or-set_same t 0 0 0 (omega (arith, t-long))) (omega (arith, n, ra.later));
-  })
+    below = λ i a. rw (one_at_first a) (omega (arith, n, ra.later));
+  }
 
-  pub begin_stands : {w' t' : List ℕ} → w' ≡ put3 w 4095 0x88 0 0 → t' ≡ set t 0 0 → Stands b w' t' o s
-  begin_stands x y = record {
-    reading = refl;
+  pub begin_stands : {w' : List ℕ} → w' ≡ put3 w 4095 0x88 0 0 → Stands b w' s
+  begin_stands x = record {
     strings = ss;
     around = [];
     own = pool_at_lem ss ∷ [];
     lists = [];
     held = begin_held;
     laid = begin_laid x;
-    noted = begin_noted y;
-    kept = record { long = o-long; saved = refl; depth = refl };
+    noted = begin_noted;
+    kept = record { long = length-replicate {A = Span} 1024 no_span; saved = refl; depth = refl };
   }
 
 -- a head that tells the pool
-pub begin_pool : (b w t o : List ℕ) (hd : Head) → hd ≡ head_at b 0 0 → hd.fits ≡ true → (m : ℕ) → hd.kind ≡ kind.Pool m → 16384 ≤ length w → w ≡ zeros_of (length w) → length t ≡ 1024 → length o ≡ 3072 → {w' t' : List ℕ} {s : Walk} →
-    w' ≡ put3 w 4095 0x88 0 0 → t' ≡ set t 0 0 → s ≡ fresh_walk (length b) hd.next m → Walked b w' t' o s
-begin_pool b w t o hd e f m k long zeros tl ol {w'} {t'} {s} x y z = go (first_told b hd e)
+pub begin_pool : (bs : Bor Bytes) (w : List ℕ) (hd : Head) → Some hd ≡ head_at bs.now 0 0 → hd.fits ≡ true → (m : ℕ) → hd.kind ≡ kind.Pool m → 16384 ≤ length w → w ≡ zeros_of (length w) → {w' : List ℕ} →
+    w' ≡ put3 w 4095 0x88 0 0 → Stands bs.now w' (fresh_walk bs hd.next m)
+begin_pool bs w hd e f m k long zeros {w'} x = go (first_told bs.now hd e)
   where
-    go : Told b 0 0 hd → Walked b w' t' o s
-    go (nothing q g h) = absurd (true≢false (sym f ∙ g))
+    go : Told bs.now 0 0 hd → Stands bs.now w' (fresh_walk bs hd.next m)
     go (there v r q kd nx ft ra) =
         let p : IsPool v m = pool_told 0 v m (sym kd ∙ k) in
         let ss = p.strings in
-        let q' : read_record b ≡ some (alone (simple (ConstantPool ss)), r) = q ∙ ap (λ (u : Record). some (u, r)) p.is in
-        let ra' : RecordAt b 0 (alone (simple (ConstantPool ss))) r = subst (λ (u : Record). RecordAt b 0 u r) p.is ra in
+        let q' : read_record bs.now ≡ some (alone (simple (ConstantPool ss)), r) = q ∙ ap (λ (u : Record). some (u, r)) p.is in
+        let ra' : RecordAt bs.now 0 (alone (simple (ConstantPool ss))) r = subst (λ (u : Record). RecordAt bs.now 0 u r) p.is ra in
         let nx' : hd.next ≡ 0 + length (single_bytes (simple (ConstantPool ss))) = nx ∙ ap (λ (u : Record). 0 + length (record_bytes u)) p.is in
         let ft' : T (record_holds_in 0 (alone (simple (ConstantPool ss)))) = subst T (sym f ∙ ft ∙ ap (record_holds_in 0) p.is) tt in
-        subst (Walked b w' t' o) (ap (fresh_walk (length b) hd.next) p.count ∙ sym z) (going (begin_stands b w t o ss r q' ra' ft' hd.next nx' long zeros tl ol x y))
+        subst (λ (i : ℕ). Stands bs.now w' (fresh_walk bs hd.next i)) p.count (begin_stands bs w ss r q' ra' ft' hd.next nx' long zeros x)

@@ -1,10 +1,12 @@
 -- What a head says of the record that is read.
-use Prim.Native.Nat.{ℕ, ◌+◌, ◌≤◌}
+use Prim.Native.Nat.{ℕ, ◌+◌, ◌-◌, ◌≤◌}
 use mathlib.Core.Path.{◌≡◌, refl, sym, ap, ◌∙◌}
 use mathlib.Core.List.{List}
 use mathlib.Core.Bool.{Bool, true, false, ◌&&◌, true≢false}
 use mathlib.Core.Option.{Option, none, some}
 use native.Mathlib.Omega.{arith}
+use Rattle.std.proofs.Common.{Some, None}
+use Rattle.std.proofs.lemmas.Option.{same_Some}
 use lib.Dec.{T}
 use lib.ListN.{length, drop}
 use Rattle.hir.specs.Hir.{Str}
@@ -32,20 +34,29 @@ abbrev pub made : ℕ → Record → Placed
 made p (alone a) = at (single a) p
 made p (header h size) = at (define h 0) p
 
--- no record, or this one
+-- a head's record
 pub data Told (d : Bytes) (p pool : ℕ) (h : Head) : Type 0 where
-  nothing : read_record (drop p d) ≡ none → h.fits ≡ false → h.kind ≡ kind.Nothing → Told d p pool h
   there : (x : Record) (r : Bytes) → read_record (drop p d) ≡ some (x, r) → h.kind ≡ record_kind p x → h.next ≡ p + length (record_bytes x) → h.fits ≡ record_holds_in pool x → RecordAt d p x r → Told d p pool h
 
-pub told : (d : Bytes) (p pool : ℕ) (h : Head) → p ≤ length d → h ≡ head_at d p pool → Told d p pool h
+pub told : (d : Bytes) (p pool : ℕ) (h : Head) → p ≤ length d → Some h ≡ head_at d p pool → Told d p pool h
 unfolding head_at
 told d p pool h l e = go (read_record (drop p d)) refl e
   where
-    go : (o : Option (Record × Bytes)) → read_record (drop p d) ≡ o → h ≡ head_of p (length d) pool o → Told d p pool h
-    go none q z = nothing q (ap (λ (x : Head). x.fits) z) (ap (λ (x : Head). x.kind) z)
+    go : (o : Option (Record × Bytes)) → read_record (drop p d) ≡ o → Some h ≡ head_of p (length d) pool o → Told d p pool h
+    go none q z = cc
     go (some x) q z =
         let k = record_at x.0 x.1 l q in
-        there x.0 x.1 q (ap (λ (y : Head). y.kind) z) (ap (λ (y : Head). y.next) z ∙ k.next) (ap (λ (y : Head). y.fits) z) k
+        let y = same_Some h (record { kind = record_kind p x.0; next = length d - length x.1; fits = record_holds_in pool x.0 }) z in
+        there x.0 x.1 q (ap (λ (y : Head). y.kind) y) (ap (λ (y : Head). y.next) y ∙ k.next) (ap (λ (y : Head). y.fits) y) k
+
+-- where there is no head, there is no record
+pub untold : (d : Bytes) (p pool : ℕ) → None ≡ head_at d p pool → read_record (drop p d) ≡ none
+unfolding head_at
+untold d p pool e = go (read_record (drop p d)) e
+  where
+    go : (o : Option (Record × Bytes)) → None ≡ head_of p (length d) pool o → o ≡ none
+    go none z = refl
+    go (some x) z = cc
 
 -- a record that breaks a rule makes an action that does
 
@@ -92,7 +103,6 @@ header_holds p pool x size h z = four true (header_fits x) (all utf8 (header_str
 -- kinds
 
 tag : Kind → ℕ
-tag kind.Nothing = 0
 tag (kind.Plain c f) = 1
 tag (kind.Pool n) = 2
 tag (kind.Push n) = 3
@@ -100,7 +110,6 @@ tag (kind.Branch c o) = 4
 tag (kind.Function n) = 5
 
 first_of : Kind → ℕ
-first_of kind.Nothing = 0
 first_of (kind.Plain c f) = c
 first_of (kind.Pool n) = n
 first_of (kind.Push n) = n
@@ -108,7 +117,6 @@ first_of (kind.Branch c o) = c
 first_of (kind.Function n) = n
 
 second_of : Kind → ℕ
-second_of kind.Nothing = 0
 second_of (kind.Plain c f) = f
 second_of (kind.Pool n) = 0
 second_of (kind.Push n) = 0
@@ -202,15 +210,3 @@ pool_told p (header h size) n e = other 5 2 (kind.Function size) (kind.Pool n) r
 -- a pool makes no action that holds
 pub pool_breaks : (p pool : ℕ) (x : Record) (n : ℕ) → record_kind p x ≡ kind.Pool n → holds pool (made p x) ≡ false
 pool_breaks p pool x n e = let q = pool_told p x n e in ap (λ (z : Record). holds pool (made p z)) q.is
-
-pub never_nothing : {A : Type 0} (p : ℕ) (x : Record) → record_kind p x ≡ kind.Nothing → A
-unfolding tag
-never_nothing p (alone (simple (op o))) e = other 1 0 (plain_kind p (op o)) kind.Nothing refl refl (λ z. omega arith) e
-never_nothing p (alone (simple (ConstantPool ss))) e = other 2 0 (plain_kind p (ConstantPool ss)) kind.Nothing refl refl (λ z. omega arith) e
-never_nothing p (alone (simple (StoreRegister r))) e = other 1 0 (plain_kind p (StoreRegister r)) kind.Nothing refl refl (λ z. omega arith) e
-never_nothing p (alone (simple (GotoFrame m))) e = other 1 0 (plain_kind p (GotoFrame m)) kind.Nothing refl refl (λ z. omega arith) e
-never_nothing p (alone (simple (GotoFrame2 t))) e = other 1 0 (plain_kind p (GotoFrame2 t)) kind.Nothing refl refl (λ z. omega arith) e
-never_nothing p (alone (simple (GotoLabel s))) e = other 1 0 (plain_kind p (GotoLabel s)) kind.Nothing refl refl (λ z. omega arith) e
-never_nothing p (alone (pushing vs)) e = other 3 0 (kind.Push (length vs)) kind.Nothing refl refl (λ z. omega arith) e
-never_nothing p (alone (branching b o)) e = other 4 0 (kind.Branch (branch_code b) o) kind.Nothing refl refl (λ z. omega arith) e
-never_nothing p (header h size) e = other 5 0 (kind.Function size) kind.Nothing refl refl (λ z. omega arith) e

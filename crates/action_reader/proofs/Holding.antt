@@ -1,5 +1,5 @@
 -- What has been read, after each step.
-use Prim.Native.Nat.{ℕ, zero, suc, ◌+◌, ◌-◌, ◌≤◌, ◌<◌}
+use Prim.Native.Nat.{ℕ, suc, ◌+◌, ◌-◌, ◌≤◌, ◌<◌}
 use mathlib.Core.Path.{◌≡◌, refl, sym, ap, ◌∙◌}
 use mathlib.Core.List.{List, [], ◌∷◌, ◌++◌}
 use mathlib.Core.Bool.{true}
@@ -7,7 +7,8 @@ use mathlib.Core.Option.{none, some}
 use native.Mathlib.Omega.{arith}
 use lib.Dec.{T, leb, le→leb}
 use lib.ListN.{length, take, drop, length-take, length-drop}
-use lib.Seq.{slice_empty, drop-drop, take-take, take-nil}
+use lib.Seq.{slice_empty, drop-drop, take-take}
+use Rattle.std.proofs.lemmas.List.{drop-take}
 use Rattle.hir.specs.Hir.{Str}
 use Rattle.pcode.specs.Pcode.{Header, define}
 use Rattle.action_format.specs.Lists.{Single, single, all}
@@ -26,17 +27,9 @@ use Rattle.action_reader.proofs.Weights.{total_append}
 -- parts of bytes
 
 take_of_drop : (b : Bytes) (n k e : ℕ) → n + k ≤ e → take k (drop n (take e b)) ≡ drop n (take (n + k) b)
-take_of_drop b zero k e h = take-take k e b (omega arith) ∙ ap (λ (m : ℕ). take m b) same
-  where
-    same : k ≡ 0 + k
-    same = omega arith
-take_of_drop [] (suc n) k zero h = absurd (omega arith)
-take_of_drop [] (suc n) k (suc e) h = rw (take-nil {A = ℕ} (suc n + k), take-nil {A = ℕ} k)
-take_of_drop (x ∷ b) (suc n) k zero h = absurd (omega arith)
-take_of_drop (x ∷ b) (suc n) k (suc e) h = take_of_drop b n k e (omega arith) ∙ ap (λ (m : ℕ). drop (suc n) (take m (x ∷ b))) more
-  where
-    more : suc (n + k) ≡ suc n + k
-    more = omega arith
+take_of_drop b n k e h =
+    let m : e ≡ n + (e - n) = omega arith in
+    ap (λ (i : ℕ). take k (drop n (take i b))) m ∙ rw (drop-take n (e - n) b, drop-take n k b) (take-take k (e - n) (drop n b) (omega arith))
 
 cut_law : (b : Bytes) (n k e : ℕ) → n + k ≤ e → e ≤ length b → read_bytes k (drop n (take e b)) ≡ some (drop n (take (n + k) b), drop (n + k) (take e b))
 unfolding read_bytes
@@ -67,17 +60,17 @@ nothing_read = refl
 
 module _ {b : Bytes} {s : Walk} {ss : List Str} {fs : List Open} {own : List Placed} {ls : List Ended} (h : Held b s ss fs own ls) where
   abbrev here : Bytes
-  here = drop s.at (take s.end b)
+  here = drop s.at (take s.span.end b)
 
   -- an action without a body
-  pub held_single : (a : Single) (r : Bytes) (s' : Walk) → read_record here ≡ some (alone a, r) → s'.at ≡ s.at + length (single_bytes a) → r ≡ drop s'.at (take s.end b) →
-      s'.at ≤ s.end → length (single_bytes a) ≤ 65538 → T (holds (length ss) (at (single a) s.at)) → s.actions < 1024 → s'.end ≡ s.end → s'.actions ≡ s.actions + 1 →
+  pub held_single : (a : Single) (r : Bytes) (s' : Walk) → read_record here ≡ some (alone a, r) → s'.at ≡ s.at + length (single_bytes a) → r ≡ drop s'.at (take s.span.end b) →
+      s'.at ≤ s.span.end → length (single_bytes a) ≤ 65538 → T (holds (length ss) (at (single a) s.at)) → s.actions < 1024 → s'.span.end ≡ s.span.end → s'.actions ≡ s.actions + 1 →
       s'.values ≡ s.values + action_values (single a) → s'.values ≤ 2048 → s'.pool ≡ s.pool → Held b s' ss fs (own ++ (at (single a) s.at ∷ [])) ls
   held_single a r s' e n q inside short good few end_is actions-are values-are few_values pool_is = record {
     pool = h.pool;
     pool_is = pool_is ∙ h.pool_is;
     left = sym (rw (end_is, n) (step_single (ending fs) own ls s.at here a r e ∙ ap (resume fs (own ++ (at (single a) s.at ∷ [])) ls (s.at + length (single_bytes a)))
-        (q ∙ ap (λ (i : ℕ). drop i (take s.end b)) n))) ∙ h.left;
+        (q ∙ ap (λ (i : ℕ). drop i (take s.span.end b)) n))) ∙ h.left;
     framed = rw end_is h.framed;
     within = omega arith;
     actions = rw (weight_last one fs ls own (at (single a) s.at)) (omega (arith, h.actions));
@@ -91,14 +84,14 @@ module _ {b : Bytes} {s : Walk} {ss : List Str} {fs : List Open} {own : List Pla
 
   -- a function's body begins
   pub held_open : (x : Header) (size : ℕ) (r : Bytes) (s' : Walk) → read_record here ≡ some (header x size, r) → s'.at ≡ s.at + length (header_bytes x size) →
-      r ≡ drop s'.at (take s.end b) → s'.at + size ≤ s.end → s.end ≤ length b → length (header_bytes x size) ≤ 65538 → T (holds (length ss) (at (define x 0) s.at)) →
-      s.actions < 1024 → s'.end ≡ s'.at + size → s'.actions ≡ s.actions + 1 → s'.values ≡ s.values → s'.pool ≡ s.pool →
-      Held b s' ss (record { header = x; position = s.at; around = own; rest = drop s'.end (take s.end b); stop = s.end } ∷ fs) [] ls
+      r ≡ drop s'.at (take s.span.end b) → s'.at + size ≤ s.span.end → s.span.end ≤ length b → length (header_bytes x size) ≤ 65538 → T (holds (length ss) (at (define x 0) s.at)) →
+      s.actions < 1024 → s'.span.end ≡ s'.at + size → s'.actions ≡ s.actions + 1 → s'.values ≡ s.values → s'.pool ≡ s.pool →
+      Held b s' ss (record { header = x; position = s.at; around = own; rest = drop s'.span.end (take s.span.end b); stop = s.span.end } ∷ fs) [] ls
   held_open x size r s' e n q inside long short good few end_is actions-are values-are pool_is = record {
     pool = h.pool;
     pool_is = pool_is ∙ h.pool_is;
-    left = sym (step_header (ending fs) own ls s.at here x size r (drop s'.at (take s'.end b)) (drop s'.end (take s.end b)) s.end e cut_is
-        ∙ ap (λ (i : ℕ). resume (g ∷ fs) [] ls i (drop s'.at (take s'.end b))) (sym n)) ∙ h.left;
+    left = sym (step_header (ending fs) own ls s.at here x size r (drop s'.at (take s'.span.end b)) (drop s'.span.end (take s.span.end b)) s.span.end e cut_is
+        ∙ ap (λ (i : ℕ). resume (g ∷ fs) [] ls i (drop s'.at (take s'.span.end b))) (sym n)) ∙ h.left;
     framed = (refl, omega arith, h.framed);
     within = omega arith;
     actions = rw (weight_open one fs ls g) (omega (arith, h.actions));
@@ -111,14 +104,14 @@ module _ {b : Bytes} {s : Walk} {ss : List Str} {fs : List Open} {own : List Pla
   }
     where
       g : Open
-      g = record { header = x; position = s.at; around = own; rest = drop s'.end (take s.end b); stop = s.end }
+      g = record { header = x; position = s.at; around = own; rest = drop s'.span.end (take s.span.end b); stop = s.span.end }
 
-      cut_is : read_bytes size r ≡ some (drop s'.at (take s'.end b), drop s'.end (take s.end b))
-      cut_is = rw (q, end_is) (cut_law b s'.at size s.end inside long)
+      cut_is : read_bytes size r ≡ some (drop s'.at (take s'.span.end b), drop s'.span.end (take s.span.end b))
+      cut_is = rw (q, end_is) (cut_law b s'.at size s.span.end inside long)
 
 -- a body has ended: its function is an action of the list around it
 pub held_close : {b : Bytes} {s : Walk} {ss : List Str} {g : Open} {fs : List Open} {own : List Placed} {ls : List Ended} → Held b s ss (g ∷ fs) own ls → (s' : Walk) →
-    s.at ≡ s.end → all (lands (bounds (ended_at own s.at))) (raw own) ≡ true → s'.at ≡ s.at → s'.end ≡ g.stop → s'.actions ≡ s.actions → s'.values ≡ s.values → s'.pool ≡ s.pool →
+    s.at ≡ s.span.end → all (lands (bounds (ended_at own s.at))) (raw own) ≡ true → s'.at ≡ s.at → s'.span.end ≡ g.stop → s'.actions ≡ s.actions → s'.values ≡ s.values → s'.pool ≡ s.pool →
     Held b s' ss fs (g.around ++ (defined g (suc (length ls)) ∷ [])) (ls ++ (ended_at own s.at ∷ []))
 held_close {b} {s} {ss} {g} {fs} {own} {ls} h s' done lands-all at-is end_is actions-are values-are pool_is = record {
   pool = h.pool;
@@ -136,8 +129,8 @@ held_close {b} {s} {ss} {g} {fs} {own} {ls} h s' done lands-all at-is end_is act
   far = rw (at-is, actions-are) h.far;
 }
   where
-    empty : drop s.at (take s.end b) ≡ []
-    empty = ap (λ (i : ℕ). drop i (take s.end b)) done ∙ slice_empty s.end b
+    empty : drop s.at (take s.span.end b) ≡ []
+    empty = ap (λ (i : ℕ). drop i (take s.span.end b)) done ∙ slice_empty s.span.end b
 
     rest_is : drop s.at (take g.stop b) ≡ g.rest
     rest_is = ap (λ (i : ℕ). drop i (take g.stop b)) done ∙ sym h.framed.0

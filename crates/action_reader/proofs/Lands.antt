@@ -22,7 +22,7 @@ use Rattle.action_format.proofs.Offsets.{sizes_fill}
 use Rattle.list_slice.specs.Read.{Placed, at, body_at_code, after_body}
 use Rattle.list_slice.proofs.Read.{map_append}
 use Rattle.action_reader.specs.Walk.{Ended, ended_at, Spread, spread, spread_of, aim, aimable, seek, bounds, found, or_zero, fixed, sure, fixed_list, sure_list}
-use Rattle.action_reader.proofs.Settle.{all_append}
+use Rattle.record_reader.proofs.Bools.{all_append}
 
 -- the bounds of a list from byte p on, by the sizes of its actions
 abbrev pub froms : ℕ → List ℕ → List ℕ

@@ -1,6 +1,5 @@
 pub mod Steps
 pub mod Weights
-pub mod Search
 pub mod Seek
 pub mod Slice
 pub mod Settle

@@ -1,62 +1,51 @@
 -- The table of positions and the kept ends, after each step.
-use Prim.Native.Nat.{ℕ, zero, suc, ◌+◌, ◌-◌, ◌*◌, ◌≤◌, ◌<◌}
+use Prim.Native.Nat.{ℕ, suc, ◌+◌, ◌-◌, ◌≤◌, ◌<◌}
 use mathlib.Core.Path.{◌≡◌, refl, sym, ap, ◌∙◌}
 use mathlib.Core.List.{List, [], ◌∷◌, ◌++◌, append_assoc, append-nil}
 use native.Mathlib.Omega.{arith}
 use native.Mathlib.Decide.{dec_lt}
 use native.Mathlib.Numerals.{add-one}
 use lib.ListN.{length, get_or, set, take, drop, length-append, length-map, length-set}
-use lib.Seq.{take-suc-set, get_or-set_same, get_or-set_other, get_or-take, take-take, take-append_seam, drop-append_seam, get_or-append-add, get_or-append_seam}
+use lib.Seq.{take-suc-set, get_or-set_same, get_or-set_other, get_or-take, take-take, take-append_seam, drop-append_seam, get_or-append_seam}
+use Rattle.std.proofs.lemmas.List.{drop-take}
 use Rattle.list_slice.specs.Read.{Placed}
 use Rattle.list_slice.proofs.Read.{map_append}
+use Rattle.action_reader.specs.declared.walk.Span.{Span}
 use Rattle.action_reader.specs.declared.walk.Walk.{Walk}
 use Rattle.action_reader.specs.Walk.{ended_at, Open, defined, bounds}
 use Rattle.action_reader.specs.Places.{Ordered}
 use Rattle.action_reader.specs.Lists.{positions_of}
+use Rattle.action_reader.specs.State.{no_span}
 use Rattle.action_reader.specs.View.{positions, upper, marks, saves, Noted, Kept}
 
 drop_of_take : (t : List ℕ) (a n : ℕ) → a ≤ n → take (n - a) (drop a t) ≡ drop a (take n t)
-drop_of_take t zero n h = ap (λ (k : ℕ). take k t) (same n)
-  where
-    same : (k : ℕ) → k - 0 ≡ k
-    same k = omega arith
-drop_of_take [] (suc a) zero h = absurd (omega arith)
-drop_of_take [] (suc a) (suc n) h = none (suc n - suc a)
-  where
-    none : (k : ℕ) → take {A = ℕ} k [] ≡ []
-    none zero = refl
-    none (suc k) = refl
-drop_of_take (x ∷ t) (suc a) zero h = absurd (omega arith)
-drop_of_take (x ∷ t) (suc a) (suc n) h = ap (λ (k : ℕ). take k (drop a t)) same ∙ drop_of_take t a n (omega arith)
-  where
-    same : suc n - suc a ≡ n - a
-    same = omega arith
+drop_of_take t a n h = sym (drop-take a (n - a) t) ∙ ap (λ (i : ℕ). drop a (take i t)) (omega arith)
 
-take_at : (n : ℕ) (xs ys : List ℕ) (t : List ℕ) (m : ℕ) → n ≤ m → take m t ≡ xs ++ ys → length xs ≡ n → take n t ≡ xs
+take_at : {A : Type 0} (n : ℕ) (xs ys : List A) (t : List A) (m : ℕ) → n ≤ m → take m t ≡ xs ++ ys → length xs ≡ n → take n t ≡ xs
 take_at n xs ys t m h e l = sym (take-take n m t h) ∙ rw e (rw (← l) (take-append_seam xs ys))
 
-module _ {t : List ℕ} {s : Walk} {fs : List Open} {own : List Placed} (h : Noted t s fs own) where
+module _ {s : Walk} {fs : List Open} {own : List Placed} (h : Noted s fs own) where
   -- the positions of the present list
-  pub positions_are : positions_of t s ≡ bounds (ended_at own s.at)
+  pub positions_are : positions_of s ≡ bounds (ended_at own s.at)
   positions_are =
-      let e : drop s.first (take s.places t) ≡ positions own = rw (h.table, ← h.first) (drop-append_seam (marks fs) (positions own)) in
-      ap (λ (z : List ℕ). z ++ (s.at ∷ [])) (drop_of_take t s.first s.places (omega (arith, h.places)) ∙ e)
+      let e : drop s.span.first (take s.places s.table) ≡ positions own = rw (h.table, ← h.first) (drop-append_seam (marks fs) (positions own)) in
+      ap (λ (z : List ℕ). z ++ (s.at ∷ [])) (drop_of_take s.table s.span.first s.places (omega (arith, h.places)) ∙ e)
 
-  pub own_ordered : Ordered t s.first s.places
+  pub own_ordered : Ordered s.table s.span.first s.places
   own_ordered = λ i j a b c. h.rising i j (omega arith) b c
 
   module _ (room : s.places < 1024) where
     abbrev next : List ℕ
-    next = set t s.places s.at
+    next = set s.table s.places s.at
 
     table_more : take (s.places + 1) next ≡ (marks fs ++ positions own) ++ (s.at ∷ [])
-    table_more = rw (add-one s.places, take-suc-set t s.places s.at (omega (arith, h.long)), h.table)
+    table_more = rw (add-one s.places, take-suc-set s.table s.places s.at (omega (arith, h.long)), h.table)
 
     at_last : get_or next s.places 0 ≡ s.at
-    at_last = get_or-set_same t s.places s.at 0 (omega (arith, h.long))
+    at_last = get_or-set_same s.table s.places s.at 0 (omega (arith, h.long))
 
-    at_before : (i : ℕ) → i < s.places → get_or next i 0 ≡ get_or t i 0
-    at_before i k = get_or-set_other t s.places i s.at 0 (λ e. omega arith)
+    at_before : (i : ℕ) → i < s.places → get_or next i 0 ≡ get_or s.table i 0
+    at_before i k = get_or-set_other s.table s.places i s.at 0 (λ e. omega arith)
 
     rising_more : Ordered next 0 (s.places + 1)
     rising_more i j a b c = go (dec_lt j s.places)
@@ -73,125 +62,101 @@ module _ {t : List ℕ} {s : Walk} {fs : List Open} {own : List Placed} (h : Not
         go (no z) = let e : i ≡ s.places = omega arith in rw (e, at_last) q
 
     -- an action
-    pub noted_single : (a : Placed) → a.position ≡ s.at → {t' : List ℕ} → t' ≡ next → (s' : Walk) → s.at < s'.at → s'.first ≡ s.first → s'.places ≡ s.places + 1 →
-        s'.actions ≡ s.actions + 1 → Noted t' s' fs (own ++ (a ∷ []))
-    noted_single a e {t'} q s' later first_is places-are actions-are = rw q (record {
-      long = length-set t s.places s.at ∙ h.long;
-      table = rw (places-are, table_more, append_assoc (marks fs) (positions own) (s.at ∷ []), map_append (λ (x : Placed). x.position) own (a ∷ []), e);
+    pub noted_single : (a : Placed) → a.position ≡ s.at → (s' : Walk) → s'.table ≡ next → s.at < s'.at → s'.span.first ≡ s.span.first → s'.places ≡ s.places + 1 →
+        s'.actions ≡ s.actions + 1 → Noted s' fs (own ++ (a ∷ []))
+    noted_single a e s' q later first_is places-are actions-are = record {
+      long = ap length q ∙ length-set s.table s.places s.at ∙ h.long;
+      table = rw (q, places-are, table_more, append_assoc (marks fs) (positions own) (s.at ∷ []), map_append (λ (x : Placed). x.position) own (a ∷ []), e);
       first = h.first ∙ sym first_is;
       places = rw (length-append own (a ∷ [])) (omega (arith, h.places));
       few = omega (arith, h.few);
-      rising = rw places-are rising_more;
-      below = rw places-are (below_more s'.at later);
-    })
+      rising = rw (q, places-are) rising_more;
+      below = rw (q, places-are) (below_more s'.at later);
+    }
 
     -- a function whose body begins
-    pub noted_open : (g : Open) → g.around ≡ own → g.position ≡ s.at → {t' : List ℕ} → t' ≡ next → (s' : Walk) → s.at < s'.at → s'.first ≡ s.places + 1 →
-        s'.places ≡ s.places + 1 → s'.actions ≡ s.actions + 1 → Noted t' s' (g ∷ fs) []
-    noted_open g e p {t'} q s' later first_is places-are actions-are = rw q (record {
-      long = length-set t s.places s.at ∙ h.long;
-      table = rw (places-are, table_more, e, p) (append_assoc (marks fs) (positions own) (s.at ∷ []) ∙ sym (append-nil (marks fs ++ (positions own ++ (s.at ∷ [])))));
+    pub noted_open : (g : Open) → g.around ≡ own → g.position ≡ s.at → (s' : Walk) → s'.table ≡ next → s.at < s'.at → s'.span.first ≡ s.places + 1 →
+        s'.places ≡ s.places + 1 → s'.actions ≡ s.actions + 1 → Noted s' (g ∷ fs) []
+    noted_open g e p s' q later first_is places-are actions-are = record {
+      long = ap length q ∙ length-set s.table s.places s.at ∙ h.long;
+      table = rw (q, places-are, table_more, e, p) (append_assoc (marks fs) (positions own) (s.at ∷ []) ∙ sym (append-nil (marks fs ++ (positions own ++ (s.at ∷ [])))));
       first = rw (e, length-append (marks fs) (positions own ++ (g.position ∷ [])), length-append (positions own) (g.position ∷ []), length-map own (λ (x : Placed). x.position)) (omega (arith, h.first, h.places));
       places = omega arith;
       few = omega (arith, h.few);
-      rising = rw places-are rising_more;
-      below = rw places-are (below_more s'.at later);
-    })
+      rising = rw (q, places-are) rising_more;
+      below = rw (q, places-are) (below_more s'.at later);
+    }
 
-module _ {t : List ℕ} {s : Walk} {g : Open} {fs : List Open} {own : List Placed} (h : Noted t s (g ∷ fs) own) where
+module _ {s : Walk} {g : Open} {fs : List Open} {own : List Placed} (h : Noted s (g ∷ fs) own) where
   abbrev before : List ℕ
   before = marks fs ++ positions g.around
 
   regroup : (marks fs ++ (positions g.around ++ (g.position ∷ []))) ++ positions own ≡ before ++ (g.position ∷ positions own)
   regroup = rw (append_assoc (marks fs) (positions g.around ++ (g.position ∷ [])) (positions own), append_assoc (positions g.around) (g.position ∷ []) (positions own), append_assoc (marks fs) (positions g.around) (g.position ∷ positions own))
 
-  before_length : suc (length before) ≡ s.first
+  before_length : suc (length before) ≡ s.span.first
   before_length =
       let z : length (marks fs ++ (positions g.around ++ (g.position ∷ []))) ≡ length (marks fs) + (length (positions g.around) + 1) =
       rw (length-append (marks fs) (positions g.around ++ (g.position ∷ [])), length-append (positions g.around) (g.position ∷ [])) in
       rw (length-append (marks fs) (positions g.around)) (omega (arith, z, h.first))
 
-  pub first_filled : 0 < s.first
+  pub first_filled : 0 < s.span.first
   first_filled = omega (arith, before_length)
 
   -- the function's own position
-  pub own_position : get_or t (s.first - 1) 0 ≡ g.position
+  pub own_position : get_or s.table (s.span.first - 1) 0 ≡ g.position
   own_position =
-      let e : s.first - 1 ≡ length before = omega (arith, before_length) in
+      let e : s.span.first - 1 ≡ length before = omega (arith, before_length) in
       let f : length before < s.places = omega (arith, before_length, h.places) in
-      rw (e, ← get_or-take s.places t (length before) 0 f, h.table, regroup) (get_or-append_seam before g.position (positions own) 0)
+      rw (e, ← get_or-take s.places s.table (length before) 0 f, h.table, regroup) (get_or-append_seam before g.position (positions own) 0)
 
-  pub noted_close : (n : ℕ) (s' : Walk) → s'.at ≡ s.at → s'.first ≡ length (marks fs) → s'.places ≡ s.first → s'.actions ≡ s.actions →
-      Noted t s' fs (g.around ++ (defined g n ∷ []))
-  noted_close n s' at-is first_is places-are actions-are = record {
-    long = h.long;
-    table = rw places-are (take_at s.first (marks fs ++ (positions g.around ++ (g.position ∷ []))) (positions own) t s.places (omega (arith, h.places)) h.table h.first
+  pub noted_close : (n : ℕ) (s' : Walk) → s'.at ≡ s.at → s'.span.first ≡ length (marks fs) → s'.places ≡ s.span.first → s'.actions ≡ s.actions → s'.table ≡ s.table →
+      Noted s' fs (g.around ++ (defined g n ∷ []))
+  noted_close n s' at-is first_is places-are actions-are same = record {
+    long = rw same h.long;
+    table = rw (same, places-are) (take_at s.span.first (marks fs ++ (positions g.around ++ (g.position ∷ []))) (positions own) s.table s.places (omega (arith, h.places)) h.table h.first
         ∙ ap (λ (z : List ℕ). marks fs ++ z) (sym (map_append (λ (x : Placed). x.position) g.around (defined g n ∷ []))));
     first = sym first_is;
     places = rw (length-append g.around (defined g n ∷ []), places-are, first_is)
         (omega (arith, before_length, length-append (marks fs) (positions g.around), length-map g.around (λ (x : Placed). x.position)));
     few = omega (arith, h.few, h.places);
-    rising = λ i j a b c. h.rising i j a b (omega (arith, h.places));
-    below = λ i a. rw at-is (h.below i (omega (arith, h.places)));
+    rising = λ i j a b c. rw same (h.rising i j a b (omega (arith, h.places)));
+    below = λ i a. rw (same, at-is) (h.below i (omega (arith, h.places)));
   }
 
--- the kept ends
+-- the kept spans
 
-saves_length : (fs : List Open) → length (saves fs) ≡ length fs * 3
+abbrev span_of : Open → List Open → Span
+span_of f fs = record { end = f.stop; base = 4096 - length (upper fs); first = length (marks fs) }
+
+saves_length : (fs : List Open) → length (saves fs) ≡ length fs
 saves_length [] = refl
-saves_length (f ∷ fs) = rw (length-append (saves fs) (f.stop ∷ (4096 - length (upper fs)) ∷ length (marks fs) ∷ []), saves_length fs) (omega arith)
+saves_length (f ∷ fs) = rw (length-append (saves fs) (span_of f fs ∷ []), saves_length fs) (omega arith)
 
-module _ {o : List ℕ} {s : Walk} {fs : List Open} (h : Kept o s fs) where
-  pub kept_same : (s' : Walk) → s'.depth ≡ s.depth → Kept o s' fs
-  kept_same s' e = record { long = h.long; saved = rw e h.saved; depth = rw e h.depth }
+module _ {s : Walk} {fs : List Open} (h : Kept s fs) where
+  pub kept_same : (s' : Walk) → s'.depth ≡ s.depth → s'.outer ≡ s.outer → Kept s' fs
+  kept_same s' e o = record { long = rw o h.long; saved = rw (e, o) h.saved; depth = rw e h.depth }
 
-  pub kept_open : (g : Open) → g.stop ≡ s.end → 4096 - length (upper fs) ≡ s.base → length (marks fs) ≡ s.first → s.depth < 1024 → {o' : List ℕ} →
-      o' ≡ set (set (set o (s.depth * 3) s.end) (s.depth * 3 + 1) s.base) (s.depth * 3 + 2) s.first → (s' : Walk) → s'.depth ≡ s.depth + 1 → Kept o' s' (g ∷ fs)
-  kept_open g stop_is base_is first_is few {o'} q s' depth_is = rw q (record {
-    long = rw (length-set, length-set, length-set) h.long;
-    saved = rw (depth_is, three) (
-        take-suc-set (set (set o k s.end) (k + 1) s.base) (k + 2) s.first (rw (length-set, length-set) (omega (arith, h.long)))
-        ∙ ap (λ (z : List ℕ). z ++ (s.first ∷ [])) (two ∙ take-suc-set (set o k s.end) (k + 1) s.base (rw length-set (omega (arith, h.long)))
-        ∙ ap (λ (z : List ℕ). z ++ (s.base ∷ [])) (one ∙ take-suc-set o k s.end (omega (arith, h.long)) ∙ ap (λ (z : List ℕ). z ++ (s.end ∷ [])) h.saved))
-        ∙ rw (stop_is, base_is, first_is) (append_assoc (saves fs ++ (s.end ∷ [])) (s.base ∷ []) (s.first ∷ []) ∙ append_assoc (saves fs) (s.end ∷ []) (s.base ∷ s.first ∷ [])));
+  pub kept_open : (g : Open) → g.stop ≡ s.span.end → 4096 - length (upper fs) ≡ s.span.base → length (marks fs) ≡ s.span.first → s.depth < 1024 →
+      (s' : Walk) → s'.depth ≡ s.depth + 1 → s'.outer ≡ set s.outer s.depth s.span → Kept s' (g ∷ fs)
+  kept_open g stop_is base_is first_is few s' depth_is q = record {
+    long = rw (q, length-set) h.long;
+    saved = rw (q, depth_is, add-one s.depth, take-suc-set s.outer s.depth s.span (omega (arith, h.long)), h.saved, stop_is, base_is, first_is);
     depth = omega (arith, h.depth);
-  })
-    where
-      k : ℕ
-      k = s.depth * 3
+  }
 
-      three : (s.depth + 1) * 3 ≡ suc (k + 2)
-      three = omega arith
+module _ {s : Walk} {g : Open} {fs : List Open} (h : Kept s (g ∷ fs)) where
+  around_is : s.depth - 1 ≡ length (saves fs)
+  around_is = rw (saves_length fs) (omega (arith, h.depth))
 
-      two : take (k + 2) (set (set o k s.end) (k + 1) s.base) ≡ take (suc (k + 1)) (set (set o k s.end) (k + 1) s.base)
-      two = let e : k + 2 ≡ suc (k + 1) = omega arith in ap (λ (n : ℕ). take n (set (set o k s.end) (k + 1) s.base)) e
+  pub span_kept : get_or s.outer (s.depth - 1) no_span ≡ span_of g fs
+  span_kept =
+      let f : s.depth - 1 < s.depth = omega (arith, h.depth) in
+      rw (← get_or-take s.depth s.outer (s.depth - 1) no_span f, h.saved, around_is) (get_or-append_seam (saves fs) (span_of g fs) [] no_span)
 
-      one : take (k + 1) (set o k s.end) ≡ take (suc k) (set o k s.end)
-      one = let e : k + 1 ≡ suc k = omega arith in ap (λ (n : ℕ). take n (set o k s.end)) e
-
-module _ {o : List ℕ} {s : Walk} {g : Open} {fs : List Open} (h : Kept o s (g ∷ fs)) where
-  abbrev word : ℕ → ℕ
-  word i = get_or o ((s.depth - 1) * 3 + i) 0
-
-  word_is : (i : ℕ) → i < 3 → word i ≡ get_or (g.stop ∷ (4096 - length (upper fs)) ∷ length (marks fs) ∷ []) i 0
-  word_is i k =
-      let e : (s.depth - 1) * 3 ≡ length (saves fs) = rw (saves_length fs) (omega (arith, h.depth)) in
-      let f : (s.depth - 1) * 3 + i < s.depth * 3 = omega (arith, h.depth) in
-      rw (← get_or-take (s.depth * 3) o ((s.depth - 1) * 3 + i) 0 f, h.saved, e) (get_or-append-add (saves fs) (g.stop ∷ (4096 - length (upper fs)) ∷ length (marks fs) ∷ []) i 0)
-
-  pub stop_kept : get_or o ((s.depth - 1) * 3) 0 ≡ g.stop
-  stop_kept = ap (λ (n : ℕ). get_or o n 0) (omega arith) ∙ word_is 0 (omega arith)
-
-  pub base_kept : get_or o ((s.depth - 1) * 3 + 1) 0 ≡ 4096 - length (upper fs)
-  base_kept = word_is 1 (omega arith)
-
-  pub first_kept : get_or o ((s.depth - 1) * 3 + 2) 0 ≡ length (marks fs)
-  first_kept = word_is 2 (omega arith)
-
-  pub kept_close : (s' : Walk) → s'.depth ≡ s.depth - 1 → Kept o s' fs
-  kept_close s' e = record {
-    long = h.long;
-    saved = rw e (take_at ((s.depth - 1) * 3) (saves fs) (g.stop ∷ (4096 - length (upper fs)) ∷ length (marks fs) ∷ []) o (s.depth * 3) (omega arith) h.saved
-        (rw (saves_length fs) (omega (arith, h.depth))));
+  pub kept_close : (s' : Walk) → s'.depth ≡ s.depth - 1 → s'.outer ≡ s.outer → Kept s' fs
+  kept_close s' e o = record {
+    long = rw o h.long;
+    saved = rw (e, o) (take_at (s.depth - 1) (saves fs) (span_of g fs ∷ []) s.outer s.depth (omega arith) h.saved (sym around_is));
     depth = omega (arith, h.depth);
   }

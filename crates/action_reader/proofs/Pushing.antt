@@ -5,10 +5,13 @@ use mathlib.Core.List.{List, [], ◌∷◌, ◌++◌, map, reverse, reverse_aux}
 use mathlib.Core.Bool.{Bool, true, false}
 use mathlib.Core.Option.{some}
 use native.Mathlib.Omega.{arith}
-use lib.ListN.{length, take, drop, length-append, length-map}
-use lib.Seq.{length-take-le}
+use lib.ListN.{length, drop, length-append, length-map, drop_of_length-le}
+use Rattle.std.proofs.Common.{Some, None}
+use Rattle.std.proofs.lemmas.Option.{same_Some}
 use Rattle.pcode.specs.Pcode.{Value}
 use Rattle.action_format.specs.Bytes.{Bytes, value_bytes}
+use Rattle.action_format.specs.Readers.{read_byte}
+use Rattle.action_format.specs.Decode.{read_value}
 use Rattle.action_format.proofs.Tests.{some_of}
 use Rattle.list_slice.specs.Entry.{Entry, Piece, entry, entry_of, value, value_entry, base}
 use Rattle.list_slice.specs.Items.{pushed_of, push_pieces}
@@ -16,7 +19,7 @@ use Rattle.list_slice.specs.Read.{values_from}
 use Rattle.builder.specs.Entries.{put3}
 use Rattle.builder.proofs.Words.{length_put}
 use Rattle.record_reader.specs.declared.ReadValue.{ReadValue}
-use Rattle.record_reader.specs.Heads.{value_of, value_at}
+use Rattle.record_reader.specs.Heads.{pushed_value, value_of, value_at}
 use Rattle.record_reader.proofs.Laws.{ValueAt, ValuesAt, value_base, value_code, value_small}
 use Rattle.action_reader.specs.Layout.{layout}
 use Rattle.action_reader.specs.Pushes.{Values, Pushed}
@@ -72,26 +75,42 @@ push_holds {d} {from} = record {
 -- a value is there as long as the end is not reached
 
 record Step (d : Bytes) (i pool : ℕ) (v : Value) (r : ReadValue) : Type 0 where
-  code_is : r.code ≡ (value_entry 0 (pushed_of (λ s. i + 1) v)).code
-  first_is : r.first ≡ (value_entry 0 (pushed_of (λ s. i + 1) v)).first
-  second_is : r.second ≡ (value_entry 0 (pushed_of (λ s. i + 1) v)).second
+  code_is : r.value.code ≡ (value_entry 0 (pushed_of (λ s. i + 1) v)).code
+  first_is : r.value.first ≡ (value_entry 0 (pushed_of (λ s. i + 1) v)).first
+  second_is : r.value.second ≡ (value_entry 0 (pushed_of (λ s. i + 1) v)).second
   next_is : r.next ≡ i + length (value_bytes v)
 
-step_of : (d : Bytes) (i pool : ℕ) (v : Value) → ValueAt d i v → (r : ReadValue) → r ≡ value_at d i pool → Step d i pool v r
+step_of : (d : Bytes) (i pool : ℕ) (v : Value) → ValueAt d i v → (r : ReadValue) → Some r ≡ value_at d i pool → Step d i pool v r
 unfolding value_at
 step_of d i pool v h r e =
-    let z : r ≡ value_of i (length d) pool (some (v, drop (i + length (value_bytes v)) d)) = e ∙ ap (value_of i (length d) pool) h.is in
+    let n : ℕ = i + length (value_bytes v) in
+    let z = same_Some r (record { value = pushed_value (i + 1) pool v; next = length d - length (drop n d) }) (e ∙ ap (value_of i (length d) pool) h.is) in
     record {
-      code_is = ap (λ (x : ReadValue). x.code) z;
-      first_is = ap (λ (x : ReadValue). x.first) z;
-      second_is = ap (λ (x : ReadValue). x.second) z;
+      code_is = ap (λ (x : ReadValue). x.value.code) z;
+      first_is = ap (λ (x : ReadValue). x.value.first) z;
+      second_is = ap (λ (x : ReadValue). x.value.second) z;
       next_is = ap (λ (x : ReadValue). x.next) z ∙ h.next;
     }
 
+-- no value is at the end, and one before it
+pub all_read : (d : Bytes) (i pool : ℕ) (vs : List Value) → ValuesAt d i vs → None ≡ value_at d i pool → vs ≡ []
+unfolding value_at
+all_read d i pool [] h e = refl
+all_read d i pool (v ∷ vs) h e =
+    let z : None ≡ value_of i (length d) pool (some (v, drop (i + length (value_bytes v)) d)) = e ∙ ap (value_of i (length d) pool) h.0.is in
+    cc
+
+pub not_ended : (d : Bytes) (i pool : ℕ) {r : ReadValue} → Some r ≡ value_at d i pool → i ≡ length d → ⊥
+unfolding value_at read_value read_byte
+not_ended d i pool e l =
+    let h : length d ≤ i = omega arith in
+    let z = rw (drop_of_length-le d h) at e in
+    cc
+
 -- what a step needs
 pub record Safe (d : Bytes) (i top b above : ℕ) (r : ReadValue) : Type 0 where
-  pub code : b + r.code < 4294967296
-  pub first : r.first < 4294967296
+  pub code : b + r.value.code < 4294967296
+  pub first : r.value.first < 4294967296
   pub later : i < r.next
   pub inside : r.next ≤ length d
   pub room : 0 < top
@@ -102,7 +121,7 @@ base_small true = omega arith
 base_small false = omega arith
 
 pub push_safe : {d : Bytes} {from above : ℕ} {vs : List Value} {w₀ w : List ℕ} {i top b : ℕ} → Pushing d from above vs w₀ w i top b → (i ≡ length d → ⊥) → length d < 4294967295 → length vs ≤ above →
-    (pool : ℕ) (r : ReadValue) → r ≡ value_at d i pool → Safe d i top b above r
+    (pool : ℕ) (r : ReadValue) → Some r ≡ value_at d i pool → Safe d i top b above r
 push_safe {d} {from} {above} {vs} {i = i} {top = top} {b = b} h n small few pool r e = go h.left h.there h.count
   where
     go : (left : List Value) → ValuesAt d i left → length left + length h.done ≡ length vs → Safe d i top b above r
@@ -124,8 +143,8 @@ entry_is i true v = value_base 0x110 (pushed_of (λ s. i + 1) v)
 entry_is i false v = value_base 0x120 (pushed_of (λ s. i + 1) v)
 
 module _ {d : Bytes} {from above : ℕ} {vs : List Value} {w₀ w : List ℕ} {i top b : ℕ} where
-  push_next : Pushing d from above vs w₀ w i top b → (i ≡ length d → ⊥) → length vs ≤ above → (pool : ℕ) (r : ReadValue) → r ≡ value_at d i pool → {w' : List ℕ} →
-      w' ≡ put3 w (top - 1) (b + r.code) r.first r.second → Pushing d from above vs w₀ w' r.next (top - 1) 0x120
+  push_next : Pushing d from above vs w₀ w i top b → (i ≡ length d → ⊥) → length vs ≤ above → (pool : ℕ) (r : ReadValue) → Some r ≡ value_at d i pool → {w' : List ℕ} →
+      w' ≡ put3 w (top - 1) (b + r.value.code) r.value.first r.value.second → Pushing d from above vs w₀ w' r.next (top - 1) 0x120
   push_next h n few pool r e {w'} q = go h.left h.there h.count h.whole
     where
       go : (left : List Value) → ValuesAt d i left → length left + length h.done ≡ length vs → reverse_aux (pieces h.first i left) h.done ≡ reverse (push_pieces (values_from from vs)) →
@@ -134,7 +153,7 @@ module _ {d : Bytes} {from above : ℕ} {vs : List Value} {w₀ w : List ℕ} {i
       go (v ∷ left) t c z =
           let s = step_of d i pool v t.0 r e in
           let p : Piece = value h.first (pushed_of (λ s. i + 1) v) in
-          let entry_same : entry (b + r.code) r.first r.second ≡ entry_of p = rw (h.base_is, s.code_is, s.first_is, s.second_is) (sym (entry_is i h.first v)) in
+          let entry_same : entry (b + r.value.code) r.value.first r.value.second ≡ entry_of p = rw (h.base_is, s.code_is, s.first_is, s.second_is) (sym (entry_is i h.first v)) in
           record {
             left = left;
             done = p ∷ h.done;
@@ -146,15 +165,15 @@ module _ {d : Bytes} {from above : ℕ} {vs : List Value} {w₀ w : List ℕ} {i
             top_is = omega (arith, h.top_is);
             words = λ low up ends a u l.
                 let k : length (map entry_of h.done ++ up) ≡ length h.done + length up = length-append (map entry_of h.done) up ∙ ap (λ (m : ℕ). m + length up) (length-map h.done entry_of) in
-                q ∙ ap (λ (x : List ℕ). put3 x (top - 1) (b + r.code) r.first r.second) (h.words low up ends a u l)
-                ∙ grows low (map entry_of h.done ++ up) ends (length w) (top - 1) (omega (arith, h.top_is, k)) (omega (arith, h.top_is, k)) (b + r.code) r.first r.second
-                ∙ ap₂ (λ (x : Entry) (m : ℕ). layout low (x ∷ (map entry_of h.done ++ up)) ends m) entry_same (sym (ap length q ∙ length_put w (top - 1) (b + r.code) r.first r.second));
+                q ∙ ap (λ (x : List ℕ). put3 x (top - 1) (b + r.value.code) r.value.first r.value.second) (h.words low up ends a u l)
+                ∙ grows low (map entry_of h.done ++ up) ends (length w) (top - 1) (omega (arith, h.top_is, k)) (omega (arith, h.top_is, k)) (b + r.value.code) r.value.first r.value.second
+                ∙ ap₂ (λ (x : Entry) (m : ℕ). layout low (x ∷ (map entry_of h.done ++ up)) ends m) entry_same (sym (ap length q ∙ length_put w (top - 1) (b + r.value.code) r.value.first r.value.second));
           }
 
 pub push_again : {d : Bytes} {from above : ℕ} {w₀ w : List ℕ} {i top b : ℕ} → Loop d from above w₀ w i top b → (i ≡ length d → ⊥) → (few : (vs : List Value) → ValuesAt d from vs → length vs ≤ above) →
-    (pool : ℕ) (r : ReadValue) → r ≡ value_at d i pool → {w' : List ℕ} → w' ≡ put3 w (top - 1) (b + r.code) r.first r.second → Loop d from above w₀ w' r.next (top - 1) 0x120
+    (pool : ℕ) (r : ReadValue) → Some r ≡ value_at d i pool → {w' : List ℕ} → w' ≡ put3 w (top - 1) (b + r.value.code) r.value.first r.value.second → Loop d from above w₀ w' r.next (top - 1) 0x120
 push_again {w = w} {top = top} {b = b} h n few pool r e q = record {
-  long = ap length q ∙ length_put w (top - 1) (b + r.code) r.first r.second ∙ h.long;
+  long = ap length q ∙ length_put w (top - 1) (b + r.value.code) r.value.first r.value.second ∙ h.long;
   pushing = λ vs t. push_next (h.pushing vs t) n (few vs t) pool r e q;
 }
 
@@ -168,40 +187,28 @@ same_values d i (u ∷ us) (v ∷ vs) h k =
     let t : ValuesAt d (i + length (value_bytes v)) us = subst (λ (x : Value). ValuesAt d (i + length (value_bytes x)) us) e h.1 in
     ap₂ (λ (x : Value) (xs : List Value). x ∷ xs) e (same_values d (i + length (value_bytes v)) us vs t k.1)
 
-pub few_values : {b : Bytes} {from next above : ℕ} → Values b from next above → (vs : List Value) → ValuesAt (take next b) from vs → length vs ≤ above
-few_values {b} {from} {next} h vs t = rw (same_values (take next b) from vs h.values t h.there) h.few
+pub few_values : {b : Bytes} {from above : ℕ} → Values b from above → (vs : List Value) → ValuesAt b from vs → length vs ≤ above
+few_values {b} {from} h vs t = rw (same_values b from vs h.values t h.there) h.few
 
-nothing_left : (d : Bytes) (i : ℕ) (left : List Value) → i ≡ length d → ValuesAt d i left → left ≡ []
-nothing_left d i [] e t = refl
-nothing_left d i (v ∷ left) e t = absurd (omega (arith, t.0.inside, t.0.later))
-
-all_done : {d : Bytes} {from above : ℕ} {vs : List Value} {w₀ w : List ℕ} {i top k : ℕ} (p : Pushing d from above vs w₀ w i top k) → i ≡ length d → p.done ≡ reverse (push_pieces (values_from from vs))
-all_done {d} {i = i} p e = ap (λ (z : List Value). reverse_aux (pieces p.first i z) p.done) (sym (nothing_left d i p.left e p.there)) ∙ p.whole
-
-pub push_done : {b : Bytes} {from next above : ℕ} {w₀ w : List ℕ} {i top k : ℕ} → Loop (take next b) from above w₀ w i top k → i ≡ length (take next b) → (vs : List Value) → Pushed b from next vs above w₀ top w
-push_done {b} {from} {next} {w = w} {i = i} h e vs = record {
+pub push_done : {b : Bytes} {from above : ℕ} {w₀ w : List ℕ} {i top k : ℕ} → Loop b from above w₀ w i top k → (pool : ℕ) → None ≡ value_at b i pool → (vs : List Value) → Pushed b from vs above w₀ top w
+push_done {b} {from} {w = w} {i = i} h pool e vs = record {
   top = λ t.
       let p = h.pushing vs t in
-      omega (arith, p.top_is, p.count, ap length (nothing_left (take next b) i p.left e p.there));
+      omega (arith, p.top_is, p.count, ap length (all_read b i pool p.left p.there e));
   words = λ t low up ends a u l.
       let p = h.pushing vs t in
-      p.words low up ends a u l ∙ ap (λ (z : List Piece). layout low (map entry_of z ++ up) ends (length w)) (all_done p e);
+      let done_is : p.done ≡ reverse (push_pieces (values_from from vs)) = ap (λ (z : List Value). reverse_aux (pieces p.first i z) p.done) (sym (all_read b i pool p.left p.there e)) ∙ p.whole in
+      p.words low up ends a u l ∙ ap (λ (z : List Piece). layout low (map entry_of z ++ up) ends (length w)) done_is;
 }
-
-pub taken : {b : Bytes} {from next above : ℕ} → Values b from next above → length (take next b) ≡ next
-taken {b} {next = next} h = length-take-le next b h.inside
 
 -- a step of the loop
 
-module _ {b : Bytes} {from next above : ℕ} {w₀ w : List ℕ} {i top k : ℕ} (h : Loop (take next b) from above w₀ w i top k) (v : Values b from next above) (n : i ≡ next → ⊥) where
-  more : i ≡ length (take next b) → ⊥
-  more e = n (e ∙ taken v)
+module _ {b : Bytes} {from above : ℕ} {w₀ w : List ℕ} {i top k : ℕ} (h : Loop b from above w₀ w i top k) (v : Values b from above) (pool : ℕ) (r : ReadValue) (e : Some r ≡ value_at b i pool) where
+  pub loop_safe : length b < 4294967295 → Safe b i top k above r
+  loop_safe small = push_safe (h.pushing v.values v.there) (not_ended b i pool e) small v.few pool r e
 
-  pub loop_safe : next < 4294967295 → (pool : ℕ) (r : ReadValue) → r ≡ value_at (take next b) i pool → Safe (take next b) i top k above r
-  loop_safe small pool r e = push_safe (h.pushing v.values v.there) more (rw (taken v) small) v.few pool r e
+  pub loop_more : {w' : List ℕ} → w' ≡ put3 w (top - 1) (k + r.value.code) r.value.first r.value.second → Loop b from above w₀ w' r.next (top - 1) 0x120
+  loop_more q = push_again h (not_ended b i pool e) (few_values v) pool r e q
 
-  pub loop_more : (pool : ℕ) (r : ReadValue) → r ≡ value_at (take next b) i pool → {w' : List ℕ} → w' ≡ put3 w (top - 1) (k + r.code) r.first r.second → Loop (take next b) from above w₀ w' r.next (top - 1) 0x120
-  loop_more pool r e q = push_again h more (few_values v) pool r e q
-
-pub top_left : {b : Bytes} {from next above : ℕ} {vs : List Value} {w w' : List ℕ} {r n : ℕ} → Pushed b from next vs above w r w' → ValuesAt (take next b) from vs → length vs ≡ n → r ≡ above - n
+pub top_left : {b : Bytes} {from above : ℕ} {vs : List Value} {w w' : List ℕ} {r n : ℕ} → Pushed b from vs above w r w' → ValuesAt b from vs → length vs ≡ n → r ≡ above - n
 top_left h t e = omega (arith, h.top t)

@@ -17,7 +17,7 @@ use Rattle.list_slice.proofs.Read.{map_append}
 use Rattle.list_slice.proofs.Pieces.{piece_back}
 use Rattle.builder.proofs.Codes.{value_from}
 use Rattle.action_reader.specs.Walk.{aim, aimed, raw, seek, is_branch, or_zero, settle, found, lands, fixed}
-use Rattle.action_reader.proofs.Settle.{all_append}
+use Rattle.record_reader.proofs.Bools.{all_append}
 
 in_order_append : (xs ys : List Placed) → placed_in_order (xs ++ ys) ≡ placed_in_order xs ++ placed_in_order ys
 unfolding placed_in_order

@@ -1,15 +1,14 @@
--- What the search by halves finds is what is sought from the first position on.
-use Prim.Native.Nat.{ℕ, zero, suc, ◌+◌, ◌-◌, ◌<◌, ◌≤◌}
+-- What a binary search finds is what is sought from the first position on.
+use Prim.Native.Nat.{ℕ, zero, suc, ◌+◌, ◌<◌, ◌≤◌}
 use mathlib.Core.Path.{◌≡◌, refl, ap, sym, ◌∙◌}
 use mathlib.Core.List.{List, [], ◌∷◌, ◌++◌}
 use mathlib.Core.Option.{Option, none, some, map}
 use native.Mathlib.Omega.{arith}
 use native.Mathlib.Decide.{dec_lt}
-use lib.ListN.{length, get_or, take, drop, length-take, length-drop}
-use lib.Seq.{get_or-take, get_or-drop}
+use lib.ListN.{length, get_or}
 use borrow.Author.Tests.{eq-eqb, ne_eqb}
 use Rattle.action_reader.specs.Walk.{seek}
-use Rattle.action_reader.specs.Places.{Ordered, Sought, part}
+use Rattle.action_reader.specs.Places.{Rises}
 
 -- what is at index i and nowhere before
 seek_at : (x : ℕ) (xs ys : List ℕ) (i : ℕ) → i < length xs → ((j : ℕ) → j < i → get_or xs j 0 < x) → get_or xs i 0 ≡ x → seek x (xs ++ ys) ≡ some i
@@ -32,41 +31,33 @@ seek_past x (y ∷ xs) ys h = rw (ne_eqb x y (λ q. h 0 (omega arith) (sym q)), 
     go none = refl
     go (some n) = ap some (omega arith)
 
-module _ {t : List ℕ} {from to x i : ℕ} (stop : ℕ) (o : Ordered t from to) (l : to ≤ length t) (f : from ≤ to) (s : Sought t from to x i) where
-  abbrev own : List ℕ
-  own = take (to - from) (drop from t)
+-- what a binary search finds
 
-  own_length : length own ≡ to - from
-  own_length = rw (length-take (to - from) (drop from t), length-drop from t) (omega arith)
+abbrev pub Rest : List ℕ → (x : ℕ) → Type 0
+Rest ps x = (k : ℕ) → k < length ps → get_or ps k 0 ≡ x → ⊥
 
-  own_at : (j : ℕ) → j < to - from → get_or own j 0 ≡ get_or t (from + j) 0
-  own_at j h = rw (get_or-take (to - from) (drop from t) j 0 h, get_or-drop from t j 0)
+module _ (ps : List ℕ) (stop x : ℕ) where
+  pub seek_there : (i : ℕ) → Rises ps → i < length ps → get_or ps i 0 ≡ x → seek x (ps ++ (stop ∷ [])) ≡ some i
+  seek_there i o h e = seek_at x ps (stop ∷ []) i h (λ j b. omega (arith, o j i (omega arith) b h, e)) e
 
-  pub found_there : i < to → get_or t i 0 ≡ x → seek x (part t from to stop) ≡ some (i - from)
-  found_there h e =
-      let k : from + (i - from) ≡ i = omega (arith, s.lower) in
-      seek_at x own (stop ∷ []) (i - from) (rw own_length (omega (arith, s.lower)))
-      (λ j b. rw (own_at j (omega (arith, s.lower))) (s.below (from + j) (omega arith) (omega (arith, s.lower))))
-      (rw (own_at (i - from) (omega (arith, s.lower)), k) e)
-
-  absent : (i < to → get_or t i 0 ≡ x → ⊥) → (j : ℕ) → j < length own → get_or own j 0 ≡ x → ⊥
-  absent n j h e =
-      let b : j < to - from = rw own_length at h in
-      let v : get_or t (from + j) 0 ≡ x = sym (own_at j b) ∙ e in
-      go b v (dec_lt (from + j) i) (dec_lt i (from + j))
-    where
-      go : j < to - from → get_or t (from + j) 0 ≡ x → Dec (from + j < i) → Dec (i < from + j) → ⊥
-      go b v (yes a) c = omega (arith, s.below (from + j) (omega arith) a, v)
-      go b v (no a) (yes c) = omega (arith, o i (from + j) s.lower c (omega arith), s.above i (omega arith) (omega arith), v)
-      go b v (no a) (no c) = let z : from + j ≡ i = omega arith in n (omega arith) (rw z at v)
-
-  pub only_stop : (i < to → get_or t i 0 ≡ x → ⊥) → seek x (part t from to stop) ≡ map (λ (n : ℕ). (to - from) + n) (seek x (stop ∷ []))
-  only_stop n = rw (seek_past x own (stop ∷ []) (absent n), own_length)
-
-  pub found_stop : (i < to → get_or t i 0 ≡ x → ⊥) → x ≡ stop → seek x (part t from to stop) ≡ some (to - from)
+  pub seek_stop : Rest ps x → x ≡ stop → seek x (ps ++ (stop ∷ [])) ≡ some (length ps)
   unfolding seek
-  found_stop n e = only_stop n ∙ rw (eq-eqb x stop e) (ap some (omega arith))
+  seek_stop n e = seek_past x ps (stop ∷ []) n ∙ rw (eq-eqb x stop e) (ap some (omega arith))
 
-  pub found_nowhere : (i < to → get_or t i 0 ≡ x → ⊥) → (x ≡ stop → ⊥) → seek x (part t from to stop) ≡ none
+  pub seek_nowhere : Rest ps x → (x ≡ stop → ⊥) → seek x (ps ++ (stop ∷ [])) ≡ none
   unfolding seek
-  found_nowhere n e = only_stop n ∙ rw (ne_eqb x stop e)
+  seek_nowhere n e = seek_past x ps (stop ∷ []) n ∙ rw (ne_eqb x stop e)
+
+pub rises_all : (ps : List ℕ) → Rises ps → (i j : ℕ) → i ≤ j → j < length ps → get_or ps i 0 ≤ get_or ps j 0
+rises_all ps o i j h l = go (dec_lt i j)
+  where
+    go : Dec (i < j) → get_or ps i 0 ≤ get_or ps j 0
+    go (yes k) = omega (arith, o i j (omega arith) k l)
+    go (no k) = let e : i ≡ j = omega arith in rw e (omega arith)
+
+pub rest_of : (ps : List ℕ) (x i : ℕ) → (i ≤ length ps) × ((k : ℕ) → k < i → get_or ps k 0 < x) × ((k : ℕ) → i ≤ k → k < length ps → x < get_or ps k 0) → Rest ps x
+rest_of ps x i h k l e = go (dec_lt k i)
+  where
+    go : Dec (k < i) → ⊥
+    go (yes z) = omega (arith, h.1 k z, e)
+    go (no z) = omega (arith, h.2 k (omega arith) l, e)

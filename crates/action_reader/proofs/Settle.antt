@@ -1,31 +1,26 @@
 -- The loop that settles and moves a list.
 use Prim.Native.Nat.{ℕ, suc, ◌+◌, ◌-◌, ◌*◌, ◌≤◌, ◌<◌}
-use mathlib.Core.Path.{◌≡◌, refl, sym, ap, ◌∙◌, subst}
-use mathlib.Core.List.{List, [], ◌∷◌, ◌++◌, map, append_assoc, append-nil}
-use mathlib.Core.Bool.{Bool, true, false, cond, ◌&&◌, true≢false}
-use mathlib.Core.Option.{some}
+use mathlib.Core.Path.{◌≡◌, refl, sym, ap, ◌∙◌}
+use mathlib.Core.List.{List, [], ◌∷◌, ◌++◌, map, append_assoc}
+use mathlib.Core.Bool.{Bool, true, false, cond, ◌&&◌}
+use mathlib.Core.Option as math
+use mathlib.Core.Option.{none, some}
+use Rattle.std.proofs.Common.{Option, Some, None}
+use Rattle.std.proofs.lemmas.Option.{same_Some}
+use Rattle.record_reader.specs.Steps.{some_of}
 use native.Mathlib.Omega.{arith}
 use lib.ListN.{length, get_or, take, drop, length-append, length-map, length-take, length-drop, take-append-drop}
-use lib.Seq.{drop-cons, take-suc, take-length, drop-length}
+use lib.Seq.{drop-cons, take-suc}
 use Rattle.action_format.specs.Lists.{all}
 use Rattle.list_slice.specs.Entry.{Entry, entry}
 use Rattle.list_slice.proofs.Read.{map_append}
 use Rattle.builder.specs.Entries.{put3}
+use Rattle.record_reader.proofs.Bools.{all_append}
 use Rattle.action_reader.specs.declared.walk.Walk.{Walk}
-use Rattle.action_reader.specs.declared.places.Place.{Place}
 use Rattle.action_reader.specs.Walk.{settle, lands, is_branch, seek, found, or_zero}
 use Rattle.action_reader.specs.Layout.{layout}
-use Rattle.action_reader.specs.Places.{place_of}
-use Rattle.action_reader.specs.Lists.{Given, SettledAs}
+use Rattle.action_reader.specs.Lists.{Given, Lost, positions_of}
 use Rattle.action_reader.proofs.Slice.{moves, reads_code, reads_first, reads_second}
-
-pub all_append : {A : Type 0} (f : A → Bool) (xs ys : List A) → all f (xs ++ ys) ≡ all f xs && all f ys
-all_append f [] ys = refl
-all_append f (x ∷ xs) ys = rw (all_append f xs ys) (and_assoc (f x) (all f xs) (all f ys))
-  where
-    and_assoc : (a b c : Bool) → a && (b && c) ≡ (a && b) && c
-    and_assoc true b c = refl
-    and_assoc false b c = refl
 
 -- k entries have moved
 pub record Half (ps : List ℕ) (k : ℕ) (low xs up : List Entry) (ends : List ℕ) (w : List ℕ) : Type 0 where
@@ -36,20 +31,14 @@ pub record Settling (w₀ : List ℕ) (s : Walk) (ps w : List ℕ) (low top : �
   pub long : length w ≡ length w₀
   pub step : low + s.top ≡ top + s.low
   pub from : s.top ≤ top
-  pub to : top ≤ s.base
+  pub to : top ≤ s.span.base
   pub half : (lows xs up : List Entry) (ends : List ℕ) → Given w₀ s lows xs up ends → Half ps (top - s.top) lows xs up ends w
-
-none_moved : {w : List ℕ} {s : Walk} {ps : List ℕ} {lows xs up : List Entry} {ends : List ℕ} (k : ℕ) → k ≡ 0 → Given w s lows xs up ends → Half ps k lows xs up ends w
-none_moved {lows = lows} k e g = rw e (record { landed = refl; words = rw (append-nil lows) g.words })
-
-pub settle_holds : {w : List ℕ} {s : Walk} {ps : List ℕ} → s.top ≤ s.base → Settling w s ps w s.low s.top
-settle_holds {s = s} h = record { long = refl; step = omega arith; from = omega arith; to = h; half = λ lows xs up ends g. none_moved (s.top - s.top) (omega arith) g }
 
 abbrev nothing : Entry
 nothing = entry 0 0 0
 
 -- the entry that is next
-module _ {w₀ : List ℕ} {s : Walk} {ps w : List ℕ} {low top : ℕ} (i : Settling w₀ s ps w low top) (more : top < s.base) (cap : s.base ≤ 4096) (down : s.low ≤ s.top)
+module _ {w₀ : List ℕ} {s : Walk} {ps w : List ℕ} {low top : ℕ} (i : Settling w₀ s ps w low top) (more : top < s.span.base) (cap : s.span.base ≤ 4096) (down : s.low ≤ s.top)
     (lows xs up : List Entry) (ends : List ℕ) (g : Given w₀ s lows xs up ends) where
   abbrev k : ℕ
   k = top - s.top
@@ -93,20 +82,32 @@ module _ {w₀ : List ℕ} {s : Walk} {ps w : List ℕ} {low top : ℕ} (i : Set
 
   -- what the place says of the entry
 
-  place_found : (p : Place) → p ≡ cond (is_branch e.code) (place_of (seek e.first ps)) (place_of (some e.first)) → p.found ≡ lands ps e
-  place_found p q = ap (λ (z : Place). z.found) q ∙ go (is_branch e.code)
-    where
-      go : (b : Bool) → (cond b (place_of (seek e.first ps)) (place_of (some e.first))).found ≡ cond b (found (seek e.first ps)) true
-      go true = refl
-      go false = refl
+  abbrev place : Option ℕ
+  place = cond (is_branch e.code) (some_of (seek e.first ps)) (Some e.first)
 
-  place_settles : (p : Place) → p ≡ cond (is_branch e.code) (place_of (seek e.first ps)) (place_of (some e.first)) → entry e.code p.word e.second ≡ settle ps e
-  place_settles p q = ap (λ (z : Place). entry e.code z.word e.second) q ∙ go (is_branch e.code)
+  place_lost : None ≡ place → lands ps e ≡ false
+  place_lost q = go (is_branch e.code) (seek e.first ps) q
     where
-      go : (b : Bool) → entry e.code (cond b (place_of (seek e.first ps)) (place_of (some e.first))).word e.second ≡
-          cond b (entry e.code (or_zero (seek e.first ps)) e.second) e
-      go true = refl
-      go false = refl
+      go : (b : Bool) (o : math.Option ℕ) → None ≡ cond b (some_of o) (Some e.first) → cond b (found o) true ≡ false
+      go true none f = refl
+      go true (some n) f = cc
+      go false o f = cc
+
+  place_found : {f : ℕ} → Some f ≡ place → lands ps e ≡ true
+  place_found {f} q = go (is_branch e.code) (seek e.first ps) q
+    where
+      go : (b : Bool) (o : math.Option ℕ) → Some f ≡ cond b (some_of o) (Some e.first) → cond b (found o) true ≡ true
+      go true none f = cc
+      go true (some n) f = refl
+      go false o f = refl
+
+  place_settles : {f : ℕ} → Some f ≡ place → entry e.code f e.second ≡ settle ps e
+  place_settles {f} q = go (is_branch e.code) (seek e.first ps) q
+    where
+      go : (b : Bool) (o : math.Option ℕ) → Some f ≡ cond b (some_of o) (Some e.first) → entry e.code f e.second ≡ cond b (entry e.code (or_zero o) e.second) e
+      go true none r = cc
+      go true (some n) r = ap (λ (m : ℕ). entry e.code m e.second) (same_Some f n r)
+      go false o r = ap (λ (m : ℕ). entry e.code m e.second) (same_Some f e.first r)
 
   taken_more : take (suc k) xs ≡ take k xs ++ (e ∷ [])
   taken_more = take-suc xs k nothing inside
@@ -126,26 +127,29 @@ module _ {w₀ : List ℕ} {s : Walk} {ps w : List ℕ} {low top : ℕ} (i : Set
       ∙ ap (layout (lows ++ map (settle ps) (take (suc k) xs)) rest ends) (sym l))
 
   -- an entry whose target is nowhere
-  pub lost : (p : Place) → p ≡ cond (is_branch e.code) (place_of (seek e.first ps)) (place_of (some e.first)) → p.found ≡ false → all (lands ps) xs ≡ false
-  lost p q h =
-      let z : lands ps e ≡ false = sym (place_found p q) ∙ h in
+  pub lost : None ≡ place → all (lands ps) xs ≡ false
+  lost q =
+      let z : lands ps e ≡ false = place_lost q in
       ap (all (lands ps)) (sym (take-append-drop k xs)) ∙ rw (all_append (lands ps) (take k xs) (drop k xs), next_is, z) (never (all (lands ps) (take k xs)))
     where
       never : (b : Bool) → b && false ≡ false
       never true = refl
       never false = refl
 
-  pub half_more : (p : Place) → p ≡ cond (is_branch e.code) (place_of (seek e.first ps)) (place_of (some e.first)) → p.found ≡ true → (w' : List ℕ) →
-      w' ≡ put3 (put3 w top 0 0 0) low (get_or w (top * 3) 0) p.word (get_or w (top * 3 + 2) 0) → length w' ≡ length w → (m : ℕ) → m ≡ suc k → Half ps m lows xs up ends w'
-  half_more p q h w' z l m a = rw a (record { landed = landed_more (sym (place_found p q) ∙ h); words = words_more w' p.word (place_settles p q) z l })
+  pub half_more : {f : ℕ} → Some f ≡ place → (w' : List ℕ) →
+      w' ≡ put3 (put3 w top 0 0 0) low (get_or w (top * 3) 0) f (get_or w (top * 3 + 2) 0) → length w' ≡ length w → (m : ℕ) → m ≡ suc k → Half ps m lows xs up ends w'
+  half_more {f} q w' z l m a = rw a (record { landed = landed_more (place_found q); words = words_more w' f (place_settles q) z l })
 
-module _ {w₀ : List ℕ} {s : Walk} {ps w : List ℕ} {low top : ℕ} (i : Settling w₀ s ps w low top) (cap : s.base ≤ 4096) (down : s.low ≤ s.top) where
-  abbrev said : (code first : ℕ) → Place
-  said c f = cond (is_branch c) (place_of (seek f ps)) (place_of (some f))
+module _ {w₀ : List ℕ} {s : Walk} {w : List ℕ} {low top : ℕ} (i : Settling w₀ s (positions_of s) w low top) (cap : s.span.base ≤ 4096) (down : s.low ≤ s.top) where
+  abbrev ps : List ℕ
+  ps = positions_of s
 
-  pub settle_again : top < s.base → (p : Place) → p ≡ said (get_or w (top * 3) 0) (get_or w (top * 3 + 1) 0) → p.found ≡ true → {w' : List ℕ} →
-      w' ≡ put3 (put3 w top 0 0 0) low (get_or w (top * 3) 0) p.word (get_or w (top * 3 + 2) 0) → length w' ≡ length w → Settling w₀ s ps w' (low + 1) (top + 1)
-  settle_again more p q h {w'} z l = record {
+  abbrev said : (code first : ℕ) → Option ℕ
+  said c f = cond (is_branch c) (some_of (seek f ps)) (Some f)
+
+  pub settle_again : top < s.span.base → {f : ℕ} → Some f ≡ said (get_or w (top * 3) 0) (get_or w (top * 3 + 1) 0) → {w' : List ℕ} →
+      w' ≡ put3 (put3 w top 0 0 0) low (get_or w (top * 3) 0) f (get_or w (top * 3 + 2) 0) → length w' ≡ length w → Settling w₀ s ps w' (low + 1) (top + 1)
+  settle_again more q {w'} z l = record {
     long = l ∙ i.long;
     step = omega (arith, i.step);
     from = omega (arith, i.from);
@@ -153,22 +157,12 @@ module _ {w₀ : List ℕ} {s : Walk} {ps w : List ℕ} {low top : ℕ} (i : Set
     half = λ lows xs up ends g.
         let a = code_is i more cap down lows xs up ends g in
         let b = first_is i more cap down lows xs up ends g in
-        half_more i more cap down lows xs up ends g p (rw (a, b) at q) h w' z l (top + 1 - s.top) (omega (arith, i.from));
+        half_more i more cap down lows xs up ends g (rw (a, b) at q) w' z l (top + 1 - s.top) (omega (arith, i.from));
   }
 
-  pub settle_lost : top < s.base → (p : Place) → p ≡ said (get_or w (top * 3) 0) (get_or w (top * 3 + 1) 0) → p.found ≡ false →
-      (lows xs up : List Entry) (ends : List ℕ) → Given w₀ s lows xs up ends → SettledAs ps lows xs up ends (record { landed = false; low = low }) w
-  settle_lost more p q h lows xs up ends g =
+  pub settle_lost : top < s.span.base → None ≡ said (get_or w (top * 3) 0) (get_or w (top * 3 + 1) 0) →
+      (lows xs up : List Entry) (ends : List ℕ) → Given w₀ s lows xs up ends → Lost s xs
+  settle_lost more q lows xs up ends g =
       let a = code_is i more cap down lows xs up ends g in
       let b = first_is i more cap down lows xs up ends g in
-      record { found = sym (lost i more cap down lows xs up ends g p (rw (a, b) at q) h); words = λ z. absurd (true≢false (sym z)); low_is = λ z. absurd (true≢false (sym z)) }
-
-  pub settle_done : top ≡ s.base → (lows xs up : List Entry) (ends : List ℕ) → Given w₀ s lows xs up ends → SettledAs ps lows xs up ends (record { landed = true; low = low }) w
-  settle_done e lows xs up ends g =
-      let m : top - s.top ≡ length xs = omega (arith, g.own_is, i.from) in
-      let h : Half ps (length xs) lows xs up ends w = subst (λ (j : ℕ). Half ps j lows xs up ends w) m (i.half lows xs up ends g) in
-      record {
-        found = sym (rw (take-length xs) at h.landed);
-        words = λ z. rw (take-length xs, drop-length xs) at h.words;
-        low_is = λ z. omega (arith, g.low_is, g.own_is, i.step);
-      }
+      lost i more cap down lows xs up ends g (rw (a, b) at q)

@@ -2,10 +2,8 @@
 use Prim.Native.Nat.{ℕ, suc, ◌+◌, ◌-◌, ◌≤◌, ◌<◌}
 use mathlib.Core.Path.{◌≡◌, refl, sym, ap, ap₂, ◌∙◌}
 use mathlib.Core.List.{List, [], ◌∷◌, ◌++◌, map, append_assoc, append-nil}
-use mathlib.Core.Bool.{true}
 use native.Mathlib.Omega.{arith}
 use lib.ListN.{length, get_or, length-append, length-map}
-use Rattle.action_format.specs.Lists.{all}
 use Rattle.list_slice.specs.Entry.{Entry, entry}
 use Rattle.list_slice.specs.Words.{joined, ends_from}
 use Rattle.list_slice.specs.Read.{Placed}
@@ -14,9 +12,9 @@ use Rattle.list_slice.proofs.Parse.{ends_length}
 use Rattle.builder.specs.Entries.{put3}
 use Rattle.builder.proofs.Words.{length_put}
 use Rattle.action_reader.specs.declared.walk.Walk.{Walk}
-use Rattle.action_reader.specs.Walk.{Ended, ended_at, Open, defined, raw, settle, settled, bounds, lands}
+use Rattle.action_reader.specs.Walk.{Ended, ended_at, Open, defined, raw, settle, settled, bounds}
 use Rattle.action_reader.specs.Layout.{layout}
-use Rattle.action_reader.specs.Lists.{Given, ClosedAs, positions_of}
+use Rattle.action_reader.specs.Lists.{Given, Closed, positions_of}
 use Rattle.action_reader.specs.View.{upper, Laid}
 use Rattle.action_reader.proofs.Slice.{grows}
 use Rattle.action_reader.proofs.Raw.{own_entries, raw_last, raw_none}
@@ -58,7 +56,7 @@ module _ {w : List ℕ} {s : Walk} {fs : List Open} {own : List Placed} {ls : Li
 
   -- an action of one entry
   pub laid_single : s.actions + s.values < 4096 → (a : Placed) (c x y : ℕ) → own_entries a ≡ entry c x y ∷ [] → {w' : List ℕ} → w' ≡ put3 w (s.top - 1) c x y → (s' : Walk) →
-      s'.low ≡ s.low → s'.top ≡ s.top - 1 → s'.base ≡ s.base → s'.lists ≡ s.lists → s'.actions ≡ s.actions + 1 → s'.values ≡ s.values → Laid w' s' fs (own ++ (a ∷ [])) ls
+      s'.low ≡ s.low → s'.top ≡ s.top - 1 → s'.span.base ≡ s.span.base → s'.lists ≡ s.lists → s'.actions ≡ s.actions + 1 → s'.values ≡ s.values → Laid w' s' fs (own ++ (a ∷ [])) ls
   laid_single few a c x y e {w'} q s' low_is top_is base_is lists_are actions-are values-are = record {
     long = rw (q, length_put w (s.top - 1) c x y) h.long;
     words = q ∙ ap (λ (z : List ℕ). put3 z (s.top - 1) c x y) h.words
@@ -77,7 +75,7 @@ module _ {w : List ℕ} {s : Walk} {fs : List Open} {own : List Placed} {ls : Li
 
   -- several entries of one action are written already
   pub laid_push : (a : Placed) (es : List Entry) → own_entries a ≡ es → {w' : List ℕ} → length w' ≡ length w → w' ≡ layout low (es ++ (raw own ++ upper fs)) ends (length w') → (s' : Walk) (n : ℕ) →
-      length es ≡ n → n ≤ s.top → s'.low ≡ s.low → s'.top ≡ s.top - n → s'.base ≡ s.base → s'.lists ≡ s.lists → s'.actions ≡ s.actions + 1 → s'.values ≡ s.values + n →
+      length es ≡ n → n ≤ s.top → s'.low ≡ s.low → s'.top ≡ s.top - n → s'.span.base ≡ s.span.base → s'.lists ≡ s.lists → s'.actions ≡ s.actions + 1 → s'.values ≡ s.values + n →
       Laid w' s' fs (own ++ (a ∷ [])) ls
   laid_push a es e {w'} l q s' n count few low_is top_is base_is lists_are actions-are values-are = record {
     long = rw l h.long;
@@ -95,7 +93,7 @@ module _ {w : List ℕ} {s : Walk} {fs : List Open} {own : List Placed} {ls : Li
 
   -- a function's body begins
   pub laid_open : (g : Open) → g.around ≡ own → (s' : Walk) →
-      s'.low ≡ s.low → s'.top ≡ s.top → s'.base ≡ s.top → s'.lists ≡ s.lists → s'.actions ≡ s.actions + 1 → s'.values ≡ s.values → Laid w s' (g ∷ fs) [] ls
+      s'.low ≡ s.low → s'.top ≡ s.top → s'.span.base ≡ s.top → s'.lists ≡ s.lists → s'.actions ≡ s.actions + 1 → s'.values ≡ s.values → Laid w s' (g ∷ fs) [] ls
   laid_open g e s' low_is top_is base_is lists_are actions-are values-are = record {
     long = h.long;
     words = rw (raw_none, e) h.words;
@@ -112,15 +110,15 @@ unfolding settled
 settled_is l = refl
 
 -- a body has ended
-pub laid_close : {w t o : List ℕ} {s : Walk} {g : Open} {fs : List Open} {own : List Placed} {ls : List Ended} (h : Laid w s (g ∷ fs) own ls) → {s' : Walk} {w' : List ℕ} →
+pub laid_close : {w : List ℕ} {s : Walk} {g : Open} {fs : List Open} {own : List Placed} {ls : List Ended} (h : Laid w s (g ∷ fs) own ls) → {s' : Walk} {w' : List ℕ} →
     s.actions + s.values < 4096 →
-    ClosedAs t o (joined (map settled ls)) (raw own) (upper (g ∷ fs)) (ends_from 0 (map settled ls)) s s' w' → length w' ≡ length w →
-    positions_of t s ≡ bounds (ended_at own s.at) → get_or t (s.first - 1) 0 ≡ g.position → all (lands (positions_of t s)) (raw own) ≡ true →
-    s'.low ≡ length (joined (map settled ls)) + length (raw own) → s'.top ≡ s.base - 1 → s'.base + length (upper fs) ≡ 4096 → s'.lists ≡ s.lists + 1 → s'.actions ≡ s.actions → s'.values ≡ s.values →
+    Closed (joined (map settled ls)) (raw own) (upper (g ∷ fs)) (ends_from 0 (map settled ls)) s s' w' → length w' ≡ length w →
+    positions_of s ≡ bounds (ended_at own s.at) → get_or s.table (s.span.first - 1) 0 ≡ g.position →
+    s'.low ≡ length (joined (map settled ls)) + length (raw own) → s'.top ≡ s.span.base - 1 → s'.span.base + length (upper fs) ≡ 4096 → s'.lists ≡ s.lists + 1 → s'.actions ≡ s.actions → s'.values ≡ s.values →
     Laid w' s' fs (g.around ++ (defined g (suc (length ls)) ∷ [])) (ls ++ (ended_at own s.at ∷ []))
-laid_close {w} {t} {o} {s} {g} {fs} {own} {ls} h {s'} {w'} few x l ps mine lands-all low_is top_is base_is lists_are actions-are values-are = record {
+laid_close {w} {s} {g} {fs} {own} {ls} h {s'} {w'} few x l ps mine low_is top_is base_is lists_are actions-are values-are = record {
   long = rw l h.long;
-  words = x.words lands-all ∙ all_same;
+  words = x.words ∙ all_same;
   low = rw (finished, joined_last (map settled ls) (settled new), length-append (joined (map settled ls)) (settled new), settled_length) (sym low_is);
   top = rw grown (omega (arith, up_length, h.base, base_is, around_there));
   base = omega (arith, base_is);
@@ -135,22 +133,22 @@ laid_close {w} {t} {o} {s} {g} {fs} {own} {ls} h {s'} {w'} few x l ps mine lands
     finished : map settled (ls ++ (new ∷ [])) ≡ map settled ls ++ (settled new ∷ [])
     finished = map_append settled ls (new ∷ [])
 
-    new_is : settled new ≡ map (settle (positions_of t s)) (raw own)
+    new_is : settled new ≡ map (settle (positions_of s)) (raw own)
     new_is = settled_is new ∙ ap (λ (z : List ℕ). map (settle z) (raw own)) (sym ps)
 
     settled_length : length (settled new) ≡ length (raw own)
-    settled_length = ap length new_is ∙ length-map (raw own) (settle (positions_of t s))
+    settled_length = ap length new_is ∙ length-map (raw own) (settle (positions_of s))
 
     grown : raw (g.around ++ (defined g (suc (length ls)) ∷ [])) ≡ entry 256 (suc (length ls)) g.position ∷ raw g.around
     grown = raw_last g.around (defined g (suc (length ls)))
 
-    around_there : length (raw g.around) + length (upper fs) + s.base ≡ 4096
-    around_there = ap (λ (n : ℕ). n + s.base) (sym (length-append (raw g.around) (upper fs))) ∙ h.base
+    around_there : length (raw g.around) + length (upper fs) + s.span.base ≡ 4096
+    around_there = ap (λ (n : ℕ). n + s.span.base) (sym (length-append (raw g.around) (upper fs))) ∙ h.base
 
     up_length : length (upper fs) + (4096 - length (upper fs)) ≡ 4096
     up_length = omega (arith, around_there)
 
-    all_same : layout (joined (map settled ls) ++ map (settle (positions_of t s)) (raw own)) (entry 256 (s.lists + 1) (get_or t (s.first - 1) 0) ∷ upper (g ∷ fs))
+    all_same : layout (joined (map settled ls) ++ map (settle (positions_of s)) (raw own)) (entry 256 (s.lists + 1) (get_or s.table (s.span.first - 1) 0) ∷ upper (g ∷ fs))
         (ends_from 0 (map settled ls) ++ ((length (joined (map settled ls)) + length (raw own)) ∷ [])) (length w') ≡
         layout (joined (map settled (ls ++ (new ∷ [])))) (raw (g.around ++ (defined g (suc (length ls)) ∷ [])) ++ upper fs) (ends_from 0 (map settled (ls ++ (new ∷ [])))) (length w')
     all_same = rw (finished, joined_last (map settled ls) (settled new), ends_last 0 (map settled ls) (settled new), settled_length, grown, mine, number, zero_first, ← new_is)

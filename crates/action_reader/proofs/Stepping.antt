@@ -1,14 +1,14 @@
 -- Each step of reading.
-use Prim.Native.Nat.{ℕ, zero, suc, ◌+◌, ◌-◌, ◌*◌, ◌≤◌, ◌<◌}
+use Prim.Native.Nat.{ℕ, zero, suc, ◌+◌, ◌-◌, ◌≤◌, ◌<◌}
 use mathlib.Core.Path.{◌≡◌, refl, sym, ap, ◌∙◌, subst}
 use mathlib.Core.List.{List, [], ◌∷◌, ◌++◌, map, reverse}
-use mathlib.Core.Bool.{false}
+use mathlib.Core.Bool.{true, false}
 use mathlib.Core.Option.{Option, none, some}
 use native.Mathlib.Omega.{arith}
 use lib.Dec.{T}
-use lib.ListN.{length, get_or, set, take, drop, length-drop, length-append, length-map, length-reverse}
-use lib.Seq.{length-take-le, drop-cons, get_or-take, take-take}
-use borrow.Author.Tests.{eq-eqb, lt-leb}
+use lib.ListN.{length, take, drop, length-drop, length-append, length-map, length-reverse}
+use lib.Seq.{length-take-le, take-take, take_all}
+use borrow.Author.Tests.{lt-leb}
 use Rattle.hir.specs.Hir.{Str}
 use Rattle.pcode.specs.Pcode.{Value, Header, push, define}
 use Rattle.lowering.specs.Builder.{limits01}
@@ -27,10 +27,10 @@ use Rattle.definition.specs.Outcome.{byte_limits}
 use Rattle.record_reader.proofs.Laws.{RecordAt, ValuesAt, push_reads}
 use Rattle.action_reader.specs.declared.walk.Walk.{Walk}
 use Rattle.action_reader.specs.Walk.{Ended, Open, ending, one, valued, bad, holds, raw, settled}
-use Rattle.action_reader.specs.State.{refused_at, single_after, open_after, push_after}
+use Rattle.action_reader.specs.State.{is_end, single_after, open_after, push_after}
 use Rattle.action_reader.specs.Pushes.{Values, value_entries, Pushed}
 use Rattle.action_reader.specs.View.{upper, Framed, Stands}
-use Rattle.action_reader.specs.Walked.{going, refused, ahead, Stepped, Inside}
+use Rattle.action_reader.specs.Walked.{ahead, Further, Inside}
 use Rattle.action_reader.proofs.Steps.{step_single, step_header, step_short, step_end}
 use Rattle.action_reader.proofs.Raw.{own_entries}
 use Rattle.action_reader.proofs.Holding.{weight_last, weight_open, held_single, held_open}
@@ -65,19 +65,16 @@ entries_length p vs =
 
 -- progress
 
-pub refused_less : (n : ℕ) (s : Walk) → s.phase ≡ 0 → ahead n (refused_at s) < ahead n s
-refused_less n s e = rw (eq-eqb s.phase 0 e) (omega arith)
+pub forward_less : (s s' : Walk) → s'.bytes ≡ s.bytes → s.at < s'.at → s'.at ≤ length s.bytes.now → s'.depth ≤ s.depth + 1 → ahead s' < ahead s
+forward_less s s' e l m d = rw e (omega arith)
 
-pub forward_less : (n : ℕ) (s s' : Walk) → s.phase ≡ 0 → s'.phase ≡ 0 → s.at < s'.at → s'.at ≤ n → s'.depth ≤ s.depth + 1 → ahead n s' < ahead n s
-forward_less n s s' e e' l m d = rw (eq-eqb s.phase 0 e, eq-eqb s'.phase 0 e') (omega arith)
+pub upward_less : (s s' : Walk) → s'.bytes ≡ s.bytes → s'.at ≡ s.at → s'.depth < s.depth → ahead s' < ahead s
+upward_less s s' e l d = rw (e, l) (omega arith)
 
-pub upward_less : (n : ℕ) (s s' : Walk) → s.phase ≡ 0 → s'.phase ≡ 0 → s'.at ≡ s.at → s'.depth < s.depth → ahead n s' < ahead n s
-upward_less n s s' e e' l d = rw (eq-eqb s.phase 0 e, eq-eqb s'.phase 0 e', l) (omega arith)
+module _ {w : List ℕ} {s : Walk} (h : Stands s.bytes.now w s) where
+  abbrev b : Bytes
+  b = s.bytes.now
 
-pub finished_less : (n : ℕ) (s s' : Walk) → s.phase ≡ 0 → s'.phase ≡ 1 → ahead n s' < ahead n s
-finished_less n s s' e e' = rw (eq-eqb s.phase 0 e, e') (omega arith)
-
-module _ {b w t o : List ℕ} {s : Walk} (h : Stands b w t o s) where
   abbrev ss : List Str
   ss = h.strings
 
@@ -88,21 +85,21 @@ module _ {b w t o : List ℕ} {s : Walk} (h : Stands b w t o s) where
   k = length ss
 
   abbrev d : Bytes
-  d = take s.end b
+  d = take s.span.end b
 
   abbrev here : Bytes
   here = drop s.at d
 
-  pub end_inside : s.end ≤ length b
-  end_inside = frame_inside b fs s.end h.held.framed
+  pub end_inside : s.span.end ≤ length b
+  end_inside = frame_inside b fs s.span.end h.held.framed
 
-  pub d_length : length d ≡ s.end
-  d_length = length-take-le s.end b end_inside
+  pub d_length : length d ≡ s.span.end
+  d_length = length-take-le s.span.end b end_inside
 
   pub at_inside : s.at ≤ length d
   at_inside = rw d_length h.held.within
 
-  here_length : length here ≡ s.end - s.at
+  here_length : length here ≡ s.span.end - s.at
   here_length = length-drop s.at d ∙ ap (λ (n : ℕ). n - s.at) d_length
 
   -- the state in numbers
@@ -111,8 +108,8 @@ module _ {b w t o : List ℕ} {s : Walk} (h : Stands b w t o s) where
     pub filled : 0 < s.top
     pub top_cap : s.top ≤ 4096
     pub room : s.low < s.top
-    pub whole : s.top ≤ s.base
-    pub cap : s.base ≤ 4096
+    pub whole : s.top ≤ s.span.base
+    pub cap : s.span.base ≤ 4096
     pub places_few : s.places ≤ 1024
     pub places_less : s.actions < 1024 → s.places < 1024
     pub near : s.at < 67200000
@@ -138,24 +135,23 @@ module _ {b w t o : List ℕ} {s : Walk} (h : Stands b w t o s) where
 
   -- no record, and no end
 
-  stuck : (gs : List Open) → length gs ≡ s.depth → (own : List Placed) (ls : List Ended) (p : ℕ) (r : Bytes) → Inside b s → r ≡ here → ending gs own ls p r ≡ none
-  stuck [] l own ls p [] i e = refl
-  stuck [] l own ls p (zero ∷ []) i e =
-      let one_left : s.end - s.at ≡ 1 = sym here_length ∙ ap length (sym e) in
-      let first : here ≡ get_or d s.at 0 ∷ drop (suc s.at) d = drop-cons d s.at 0 (omega (arith, d_length)) in
-      let z : get_or d s.at 0 ≡ 0 = sym (ap (λ (x : List ℕ). get_or x 0 0) (e ∙ first)) in
-      absurd (i.top (sym l) (omega arith) (sym (get_or-take s.end b s.at 0 (omega arith)) ∙ z))
-  stuck [] l own ls p (zero ∷ (y ∷ r)) i e = refl
-  stuck [] l own ls p (suc y ∷ r) i e = refl
-  stuck (g ∷ gs) l own ls p [] i e =
-      let none_left : s.end - s.at ≡ 0 = sym here_length ∙ ap length (sym e) in
+  stuck : (gs : List Open) → Framed b gs s.span.end → length gs ≡ s.depth → (own : List Placed) (ls : List Ended) (p : ℕ) (r : Bytes) → Inside s → r ≡ here → ending gs own ls p r ≡ none
+  stuck [] f l own ls p [] i e = refl
+  stuck [] f l own ls p (zero ∷ []) i e =
+      let y : drop s.at b ≡ 0 ∷ [] = ap (drop s.at) (sym (rw f (take_all (length b) b (omega arith)))) ∙ sym e in
+      let z : true ≡ false = ap is_end (sym y) ∙ i.top (sym l) in
+      cc
+  stuck [] f l own ls p (zero ∷ (y ∷ r)) i e = refl
+  stuck [] f l own ls p (suc y ∷ r) i e = refl
+  stuck (g ∷ gs) f l own ls p [] i e =
+      let none_left : s.span.end - s.at ≡ 0 = sym here_length ∙ ap length (sym e) in
       absurd (i.body (λ z. omega arith) (omega (arith, h.held.within)))
-  stuck (g ∷ gs) l own ls p (y ∷ r) i e = refl
+  stuck (g ∷ gs) f l own ls p (y ∷ r) i e = refl
 
-  pub refuse_nothing : read_record here ≡ none → Inside b s → decode limits b ≡ none
+  pub refuse_nothing : read_record here ≡ none → Inside s → decode limits b ≡ none
   refuse_nothing e i =
       verdict.stopped limits b ss h.held.pool fs h.own h.lists s.at here h.held.left
-      (step_end (ending fs) h.own h.lists s.at here e ∙ stuck fs h.kept.depth h.own h.lists s.at here i refl)
+      (step_end (ending fs) h.own h.lists s.at here e ∙ stuck fs h.held.framed h.kept.depth h.own h.lists s.at here i refl)
 
   -- a record that is one too many, or breaks a rule
 
@@ -178,9 +174,9 @@ module _ {b w t o : List ℕ} {s : Walk} (h : Stands b w t o s) where
           verdict.stopped limits b ss h.held.pool fs h.own h.lists s.at here h.held.left
           (step_short (ending fs) h.own h.lists s.at here x size r e q)
       go (some y) q =
-          let g : Open = record { header = x; position = s.at; around = h.own; rest = y.1; stop = s.end } in
+          let g : Open = record { header = x; position = s.at; around = h.own; rest = y.1; stop = s.span.end } in
           verdict.refused limits b ss h.held.pool (g ∷ fs) [] h.lists (s.at + length (header_bytes x size)) y.0
-          (sym (step_header (ending fs) h.own h.lists s.at here x size r y.0 y.1 s.end e q) ∙ h.held.left)
+          (sym (step_header (ending fs) h.own h.lists s.at here x size r y.0 y.1 s.span.end e q) ∙ h.held.left)
           (λ al. z (omega (arith, al.actions, weight_open one fs h.lists g, h.held.actions))
           (omega (arith, al.values, weight_open valued fs h.lists g, h.held.values))
           (omega (arith, al.good, weight_open (bad k) fs h.lists g, h.held.good)))
@@ -198,13 +194,10 @@ module _ {b w t o : List ℕ} {s : Walk} (h : Stands b w t o s) where
       verdict.stopped limits b ss h.held.pool fs h.own h.lists s.at here h.held.left
       (step_short (ending fs) h.own h.lists s.at here x size r e q)
 
-  pub refused_step : {w' t' o' : List ℕ} {r : Walk} → decode limits b ≡ none → r ≡ refused_at s → Stepped b s r w' t' o'
-  refused_step n e = rw e (record { walked = refused refl n; less = refused_less (length b) s h.reading })
-
   -- an action of one entry
   module _ (a : Single) (r : Bytes) (e : read_record here ≡ some (alone a, r)) (q : RecordAt d s.at (alone a) r) (next : ℕ) (n : next ≡ s.at + length (single_bytes a))
       (good : T (holds k (at (single a) s.at))) (few : s.actions < 1024) where
-    next_inside : next ≤ s.end
+    next_inside : next ≤ s.span.end
     next_inside = omega (arith, q.inside, d_length)
 
     rest_is : r ≡ drop next d
@@ -213,47 +206,47 @@ module _ {b w t o : List ℕ} {s : Walk} (h : Stands b w t o s) where
     later : s.at < next
     later = omega (arith, q.later)
 
-    pub single_step : action_values (single a) ≡ 0 → (c f : ℕ) → own_entries (at (single a) s.at) ≡ entry c f 0 ∷ [] → {w' t' : List ℕ} → w' ≡ put3 w (s.top - 1) c f 0 → t' ≡ set t s.places s.at → {s' : Walk} →
-        s' ≡ single_after s next → Stepped b s s' w' t' o
-    single_step v c f entries_are x y z = rw z (record {
-      walked = going (record {
-        reading = h.reading;
+    pub single_step : action_values (single a) ≡ 0 → (c f : ℕ) → own_entries (at (single a) s.at) ≡ entry c f 0 ∷ [] → {w' : List ℕ} → w' ≡ put3 w (s.top - 1) c f 0 → {s' : Walk} →
+        s' ≡ single_after s next → Further s s' w'
+    single_step v c f entries_are x z = rw z (record {
+      same = refl;
+      stands = record {
         strings = ss;
         around = fs;
         own = h.own ++ (at (single a) s.at ∷ []);
         lists = h.lists;
         held = held_single h.held a r (single_after s next) e n rest_is next_inside q.short good few refl refl (omega (arith, v)) h.held.few_values refl;
         laid = laid_single h.laid numbers.sum (at (single a) s.at) c f 0 entries_are x (single_after s next) refl refl refl refl refl refl;
-        noted = noted_single h.noted (numbers.places_less few) (at (single a) s.at) refl y (single_after s next) later refl refl refl;
-        kept = kept_same h.kept (single_after s next) refl;
-      });
-      less = forward_less (length b) s (single_after s next) h.reading h.reading later (omega (arith, next_inside, end_inside)) (omega arith);
+        noted = noted_single h.noted (numbers.places_less few) (at (single a) s.at) refl (single_after s next) refl later refl refl refl;
+        kept = kept_same h.kept (single_after s next) refl refl;
+      };
+      less = forward_less s (single_after s next) refl later (omega (arith, next_inside, end_inside)) (omega arith);
     })
 
   -- a Push
   module _ (vs : List Value) (r : Bytes) (e : read_record here ≡ some (alone (pushing vs), r)) (q : RecordAt d s.at (alone (pushing vs)) r) (next : ℕ)
       (n : next ≡ s.at + length (single_bytes (pushing vs))) (few : s.actions < 1024) (fit : s.values + length vs ≤ 2048) where
-    push_inside : next ≤ s.end
+    push_inside : next ≤ s.span.end
     push_inside = omega (arith, q.inside, d_length)
 
     push_later : s.at < next
     push_later = omega (arith, q.later)
 
     values_there : ValuesAt (take next b) (s.at + 3) vs
-    values_there = subst (λ (z : Bytes). ValuesAt z (s.at + 3) vs) (ap (λ (i : ℕ). take i d) (q.next ∙ sym n) ∙ take-take next s.end b push_inside) (push_reads d s.at vs r at_inside e)
+    values_there = subst (λ (z : Bytes). ValuesAt z (s.at + 3) vs) (ap (λ (i : ℕ). take i d) (q.next ∙ sym n) ∙ take-take next s.span.end b push_inside) (push_reads d s.at vs r at_inside e)
 
     room_left : s.low + length vs ≤ s.top
     room_left = omega (arith, h.laid.room, fit, few, h.laid.top, h.laid.base)
 
-    pub push_needs : Values b (s.at + 3) next s.top
-    push_needs = record { values = vs; there = values_there; few = omega (arith, room_left); inside = omega (arith, push_inside, end_inside) }
+    pub push_needs : Values (take next b) (s.at + 3) s.top
+    push_needs = record { values = vs; there = values_there; few = omega (arith, room_left) }
 
-    pub push_step : T (holds k (at (push vs) s.at)) → (m : ℕ) → length vs ≡ m → {w' t' : List ℕ} {s' : Walk} →
+    pub push_step : T (holds k (at (push vs) s.at)) → (m : ℕ) → length vs ≡ m → {w' : List ℕ} {s' : Walk} →
         ((us : List Value) → ValuesAt (take next b) (s.at + 3) us → length us ≡ m → s' ≡ push_after s m next) →
-        ((us : List Value) → Pushed b (s.at + 3) next us s.top w s'.top w') → length w' ≡ length w → t' ≡ set t s.places s.at → Stepped b s s' w' t' o
-    push_step good m c {w'} {t'} {s'} state pushed long y = rw (state vs values_there c) (record {
-      walked = going (record {
-        reading = h.reading;
+        ((us : List Value) → Pushed (take next b) (s.at + 3) us s.top w s'.top w') → length w' ≡ length w → Further s s' w'
+    push_step good m c {w'} {s'} state pushed long = rw (state vs values_there c) (record {
+      same = refl;
+      stands = record {
         strings = ss;
         around = fs;
         own = h.own ++ (at (push vs) s.at ∷ []);
@@ -262,10 +255,10 @@ module _ {b w t o : List ℕ} {s : Walk} (h : Stands b w t o s) where
         laid = laid_push h.laid (at (push vs) s.at) (value_entries (s.at + 3) vs) refl long
             ((pushed vs).words values_there (joined (map settled h.lists)) (raw h.own ++ upper fs) (ends_from 0 (map settled h.lists)) h.laid.words up_length (omega (arith, room_left, h.laid.low)))
             (push_after s m next) m (entries_length (s.at + 3) vs ∙ c) (omega (arith, room_left)) refl refl refl refl refl refl;
-        noted = noted_single h.noted (numbers.places_less few) (at (push vs) s.at) refl y (push_after s m next) push_later refl refl refl;
-        kept = kept_same h.kept (push_after s m next) refl;
-      });
-      less = forward_less (length b) s (push_after s m next) h.reading h.reading push_later (omega (arith, push_inside, end_inside)) (omega arith);
+        noted = noted_single h.noted (numbers.places_less few) (at (push vs) s.at) refl (push_after s m next) refl push_later refl refl refl;
+        kept = kept_same h.kept (push_after s m next) refl refl;
+      };
+      less = forward_less s (push_after s m next) refl push_later (omega (arith, push_inside, end_inside)) (omega arith);
     })
       where
         up_length : length (raw h.own ++ upper fs) + s.top ≡ 4096
@@ -277,31 +270,30 @@ module _ {b w t o : List ℕ} {s : Walk} (h : Stands b w t o s) where
     header_rest : r ≡ drop next d
     header_rest = q.rest ∙ ap (λ (i : ℕ). drop i d) (sym n)
 
-    header_inside : next ≤ s.end
+    header_inside : next ≤ s.span.end
     header_inside = omega (arith, q.inside, d_length)
 
     header_later : s.at < next
     header_later = omega (arith, q.later)
 
-    pub open_short : s.end - next < size → decode limits b ≡ none
+    pub open_short : s.span.end - next < size → decode limits b ≡ none
     open_short l = refuse_short x size r e (too_short size r (rw (header_rest, length-drop next d, d_length) l))
 
-    pub open_step : size ≤ s.end - next → T (holds k (at (define x 0) s.at)) → s.actions < 1024 → {t' o' : List ℕ} → t' ≡ set t s.places s.at →
-        o' ≡ set (set (set o (s.depth * 3) s.end) (s.depth * 3 + 1) s.base) (s.depth * 3 + 2) s.first → {s' : Walk} → s' ≡ open_after s size next → Stepped b s s' w t' o'
-    open_step l good few y z f = rw f (record {
-      walked = going (record {
-        reading = h.reading;
+    pub open_step : size ≤ s.span.end - next → T (holds k (at (define x 0) s.at)) → s.actions < 1024 → {s' : Walk} → s' ≡ open_after s size next → Further s s' w
+    open_step l good few f = rw f (record {
+      same = refl;
+      stands = record {
         strings = ss;
         around = g ∷ fs;
         own = [];
         lists = h.lists;
         held = held_open h.held x size r (open_after s size next) e n header_rest (omega (arith, header_inside)) end_inside q.short good few refl refl refl refl;
         laid = laid_open h.laid g refl (open_after s size next) refl refl refl refl refl refl;
-        noted = noted_open h.noted (numbers.places_less few) g refl refl y (open_after s size next) header_later refl refl refl;
-        kept = kept_open h.kept g refl (omega (arith, h.laid.base)) h.noted.first numbers.depth_few z (open_after s size next) refl;
-      });
-      less = forward_less (length b) s (open_after s size next) h.reading h.reading header_later (omega (arith, header_inside, end_inside)) (omega arith);
+        noted = noted_open h.noted (numbers.places_less few) g refl refl (open_after s size next) refl header_later refl refl refl;
+        kept = kept_open h.kept g refl (omega (arith, h.laid.base)) h.noted.first numbers.depth_few (open_after s size next) refl refl;
+      };
+      less = forward_less s (open_after s size next) refl header_later (omega (arith, header_inside, end_inside)) (omega arith);
     })
       where
         g : Open
-        g = record { header = x; position = s.at; around = h.own; rest = drop (next + size) d; stop = s.end }
+        g = record { header = x; position = s.at; around = h.own; rest = drop (next + size) d; stop = s.span.end }

@@ -2,6 +2,7 @@ pub mod Walk
 pub mod Layout
 pub mod State
 pub mod Places
+pub mod Targets
 pub mod Lists
 pub mod View
 pub mod Pushes

@@ -1,55 +1,58 @@
 -- A list that ends: where it stands, and how it is left.
-use Rattle.std.specs.Prelude.{ℕ, ◌+◌, ◌-◌, ◌≤◌, ◌<◌, ◌≡◌, List, [], ◌∷◌, ◌++◌, map, true, false, length, get_or}
+use Rattle.std.specs.Prelude.{ℕ, ◌+◌, ◌-◌, ◌≤◌, ◌<◌, ◌≡◌, List, [], ◌∷◌, ◌++◌, map, true, false, Option, MatchOption, length, get_or}
 use Rattle.action_format.specs.Lists.{all}
 use Rattle.list_slice.specs.Entry.{Entry, entry}
 use Rattle.action_reader.specs.declared.walk.Walk.{Walk}
-use Rattle.action_reader.specs.declared.lists.Settled.{Settled}
 use Rattle.action_reader.specs.Walk.{settle, lands}
 use Rattle.action_reader.specs.Layout.{layout}
 use Rattle.action_reader.specs.Places.{Ordered, part}
-use Rattle.action_reader.specs.State.{refused_at, close_after, finish_after}
+use Rattle.action_reader.specs.State.{close_after}
 
 -- a list that can end
-pub record Ready (w t : List ℕ) (s : Walk) : Type 0 where
+pub record Ready (w : List ℕ) (s : Walk) : Type 0 where
   pub long : 16384 ≤ length w
   pub down : s.low ≤ s.top
   pub room : s.low < s.top
-  pub whole : s.top ≤ s.base
-  pub cap : s.base ≤ 4096
-  pub from : s.first ≤ s.places
+  pub whole : s.top ≤ s.span.base
+  pub cap : s.span.base ≤ 4096
+  pub from : s.span.first ≤ s.places
   pub few : s.places ≤ 1024
-  pub in_table : s.places ≤ length t
-  pub ordered : Ordered t s.first s.places
+  pub in_table : s.places ≤ length s.table
+  pub ordered : Ordered s.table s.span.first s.places
   pub more : s.lists < 1024
 
 -- the entries of the present list are xs, above finished ones and below those of other open lists
 pub record Given (w : List ℕ) (s : Walk) (low xs up : List Entry) (ends : List ℕ) : Type 0 where
   pub words : w ≡ layout low (xs ++ up) ends (length w)
   pub low_is : length low ≡ s.low
-  pub up_is : length up + s.base ≡ 4096
-  pub own_is : length xs + s.top ≡ s.base
+  pub up_is : length up + s.span.base ≡ 4096
+  pub own_is : length xs + s.top ≡ s.span.base
 
-pub record SettledAs (ps : List ℕ) (low xs up : List Entry) (ends : List ℕ) (r : Settled) (w : List ℕ) : Type 0 where
-  pub found : r.landed ≡ all (lands ps) xs
-  pub words : r.landed ≡ true → w ≡ layout (low ++ map (settle ps) xs) up ends (length w)
-  pub low_is : r.landed ≡ true → r.low ≡ length low + length xs
+abbrev pub positions_of : Walk → List ℕ
+positions_of s = part s.table s.span.first s.places s.at
+
+-- a branch leads to no place
+abbrev pub Lost : Walk → List Entry → Type 0
+Lost s xs = all (lands (positions_of s)) xs ≡ false
+
+-- each branch has its place, and the entries have moved; they end below entry n
+pub record Moved (s : Walk) (low xs up : List Entry) (ends : List ℕ) (n : ℕ) (w : List ℕ) : Type 0 where
+  pub landed : all (lands (positions_of s)) xs ≡ true
+  pub words : w ≡ layout (low ++ map (settle (positions_of s)) xs) up ends (length w)
+  pub low_is : n ≡ length low + length xs
+
+abbrev pub SettledAs : Walk → (low xs up : List Entry) → (ends : List ℕ) → Option ℕ → List ℕ → Type 0
+SettledAs s low xs up ends r w = MatchOption r (Lost s xs) (λ n. Moved s low xs up ends n w)
 
 -- the same, with the list's end in the table of ends
-pub record EndedAs (ps : List ℕ) (low xs up : List Entry) (ends : List ℕ) (r : Settled) (w : List ℕ) : Type 0 where
-  pub found : r.landed ≡ all (lands ps) xs
-  pub words : r.landed ≡ true → w ≡ layout (low ++ map (settle ps) xs) up (ends ++ (r.low ∷ [])) (length w)
-  pub low_is : r.landed ≡ true → r.low ≡ length low + length xs
+abbrev pub EndedAs : Walk → (low xs up : List Entry) → (ends : List ℕ) → Option ℕ → List ℕ → Type 0
+EndedAs s low xs up ends r w = MatchOption r (Lost s xs) (λ n. Moved s low xs up (ends ++ (n ∷ [])) n w)
 
-abbrev pub positions_of : List ℕ → Walk → List ℕ
-positions_of t s = part t s.first s.places s.at
+-- and the function whose body it is has its entry
+pub record Closed (low xs up : List Entry) (ends : List ℕ) (s r : Walk) (w : List ℕ) : Type 0 where
+  pub landed : all (lands (positions_of s)) xs ≡ true
+  pub state : r ≡ close_after s (length low + length xs)
+  pub words : w ≡ layout (low ++ map (settle (positions_of s)) xs) (entry 256 (s.lists + 1) (get_or s.table (s.span.first - 1) 0) ∷ up) (ends ++ ((length low + length xs) ∷ [])) (length w)
 
-pub record ClosedAs (t o : List ℕ) (low xs up : List Entry) (ends : List ℕ) (s r : Walk) (w : List ℕ) : Type 0 where
-  pub lost : all (lands (positions_of t s)) xs ≡ false → r ≡ refused_at s
-  pub state : all (lands (positions_of t s)) xs ≡ true → r ≡ close_after s (length low + length xs) o
-  pub words : all (lands (positions_of t s)) xs ≡ true →
-      w ≡ layout (low ++ map (settle (positions_of t s)) xs) (entry 256 (s.lists + 1) (get_or t (s.first - 1) 0) ∷ up) (ends ++ ((length low + length xs) ∷ [])) (length w)
-
-pub record FinishedAs (t : List ℕ) (low xs up : List Entry) (ends : List ℕ) (s r : Walk) (w : List ℕ) : Type 0 where
-  pub lost : all (lands (positions_of t s)) xs ≡ false → r ≡ refused_at s
-  pub state : all (lands (positions_of t s)) xs ≡ true → r ≡ finish_after s (length low + length xs)
-  pub words : all (lands (positions_of t s)) xs ≡ true → w ≡ layout (low ++ map (settle (positions_of t s)) xs) up (ends ++ ((length low + length xs) ∷ [])) (length w)
+abbrev pub ClosedAs : {A : Type 0} → (low xs up : List Entry) → (ends : List ℕ) → (s r : Walk) → Option A → List ℕ → Type 0
+ClosedAs low xs up ends s r o w = MatchOption o (Lost s xs) (λ _. Closed low xs up ends s r w)

@@ -1,128 +1,74 @@
 -- The states that come of a step.
-use Rattle.std.specs.Prelude.{ℕ, ◌+◌, ◌-◌, ◌*◌, List, get_or}
+use Rattle.std.specs.Prelude.{ℕ, zero, suc, ◌+◌, ◌-◌, ◌<◌, [], ◌∷◌, Bool, true, false, ◌&&◌, eqb, length, get_or, drop, set, replicate}
+use Rattle.std.specs.Borrow.{Bor}
+use Rattle.action_format.specs.Bytes.{Bytes}
+use Rattle.action_reader.specs.declared.walk.Span.{Span}
 use Rattle.action_reader.specs.declared.walk.Walk.{Walk}
 
-abbrev pub refused_at : Walk → Walk
-refused_at s = record {
-  phase = 2;
-  at = s.at;
-  end = s.end;
-  actions = s.actions;
-  values = s.values;
-  low = s.low;
-  top = s.top;
-  base = s.base;
-  lists = s.lists;
-  places = s.places;
-  first = s.first;
-  depth = s.depth;
-  pool = s.pool;
-}
+-- End, and nothing after it
+abbrev pub is_end : Bytes → Bool
+is_end [] = false
+is_end (zero ∷ []) = true
+is_end (zero ∷ (b ∷ r)) = false
+is_end (suc b ∷ r) = false
+
+abbrev pub is_over : Walk → Bool
+is_over s = eqb s.depth 0 && is_end (drop s.at s.bytes.now)
+
+-- there is room for one more action
+pub record Roomy (s : Walk) : Type 0 where
+  pub places : s.places < 1024
+  pub actions : s.actions < 1024
+  pub near : s.at < 4294967296
+
+-- an action's record is read
+abbrev pub advanced : Walk → (next : ℕ) → Walk
+advanced s next = record s { at = next; actions = s.actions + 1; places = s.places + 1; table = set s.table s.places s.at }
 
 -- an action of one entry
 abbrev pub single_after : Walk → (next : ℕ) → Walk
-single_after s next = record {
-  phase = s.phase;
-  at = next;
-  end = s.end;
-  actions = s.actions + 1;
-  values = s.values;
-  low = s.low;
-  top = s.top - 1;
-  base = s.base;
-  lists = s.lists;
-  places = s.places + 1;
-  first = s.first;
-  depth = s.depth;
-  pool = s.pool;
-}
+single_after s next = advanced (record s { top = s.top - 1 }) next
 
 -- a function's body begins
 abbrev pub open_after : Walk → (size next : ℕ) → Walk
-open_after s size next = record {
-  phase = s.phase;
-  at = next;
-  end = next + size;
-  actions = s.actions + 1;
-  values = s.values;
-  low = s.low;
-  top = s.top;
-  base = s.top;
-  lists = s.lists;
-  places = s.places + 1;
-  first = s.places + 1;
+open_after s size next = record (advanced s next) {
+  span = record { end = next + size; base = s.top; first = s.places + 1 };
   depth = s.depth + 1;
-  pool = s.pool;
+  outer = set s.outer s.depth s.span;
 }
 
 -- so many values of one Push, whose entries end below `top`
 abbrev pub push_after : Walk → (values next : ℕ) → Walk
-push_after s n next = record {
-  phase = s.phase;
-  at = next;
-  end = s.end;
-  actions = s.actions + 1;
-  values = s.values + n;
-  low = s.low;
-  top = s.top - n;
-  base = s.base;
-  lists = s.lists;
-  places = s.places + 1;
-  first = s.first;
-  depth = s.depth;
-  pool = s.pool;
-}
+push_after s n next = advanced (record s { top = s.top - n; values = s.values + n }) next
+
+abbrev pub no_span : Span
+no_span = record { end = 0; base = 0; first = 0 }
 
 -- a body has ended; its list's entries end below entry `low`
-abbrev pub close_after : Walk → (low : ℕ) → (outer : List ℕ) → Walk
-close_after s low o = record {
-  phase = s.phase;
-  at = s.at;
-  end = get_or o ((s.depth - 1) * 3) 0;
-  actions = s.actions;
-  values = s.values;
+abbrev pub close_after : Walk → (low : ℕ) → Walk
+close_after s low = record s {
+  span = get_or s.outer (s.depth - 1) no_span;
   low = low;
-  top = s.base - 1;
-  base = get_or o ((s.depth - 1) * 3 + 1) 0;
+  top = s.span.base - 1;
   lists = s.lists + 1;
-  places = s.first;
-  first = get_or o ((s.depth - 1) * 3 + 2) 0;
+  places = s.span.first;
   depth = s.depth - 1;
-  pool = s.pool;
-}
-
--- the top list has ended
-abbrev pub finish_after : Walk → (low : ℕ) → Walk
-finish_after s low = record {
-  phase = 1;
-  at = s.at;
-  end = s.end;
-  actions = s.actions;
-  values = s.values;
-  low = low;
-  top = s.top;
-  base = s.base;
-  lists = s.lists + 1;
-  places = s.places;
-  first = s.first;
-  depth = s.depth;
-  pool = s.pool;
 }
 
 -- after the pool
-abbrev pub fresh_walk : (stop next pool : ℕ) → Walk
-fresh_walk e next pool = record {
-  phase = 0;
+abbrev pub fresh_walk : Bor Bytes → (next pool : ℕ) → Walk
+fresh_walk b next pool = record {
+  bytes = b;
   at = next;
-  end = e;
+  span = record { end = length b.now; base = 4096; first = 0 };
   actions = 1;
   values = 0;
   low = 0;
   top = 4095;
-  base = 4096;
   lists = 0;
   places = 1;
-  first = 0;
   depth = 0;
   pool = pool;
+  table = replicate 1024 0;
+  outer = replicate 1024 no_span;
 }

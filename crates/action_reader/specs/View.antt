@@ -12,6 +12,7 @@ use Rattle.action_format.specs.Decode.{alone, read_record}
 use Rattle.list_slice.specs.Entry.{Entry}
 use Rattle.list_slice.specs.Words.{joined, ends_from}
 use Rattle.list_slice.specs.Read.{Placed}
+use Rattle.action_reader.specs.declared.walk.Span.{Span}
 use Rattle.action_reader.specs.declared.walk.Walk.{Walk}
 use Rattle.action_reader.specs.Walk.{Ended, Open, resume, weight, one, valued, bad, lost, raw, settled}
 use Rattle.action_reader.specs.Layout.{layout}
@@ -31,9 +32,9 @@ marks [] = []
 marks (f ∷ fs) = marks fs ++ (positions f.around ++ (f.position ∷ []))
 
 -- for each list around: where it stops, where its entries end, and where its positions begin
-abbrev pub saves : List Open → List ℕ
+abbrev pub saves : List Open → List Span
 saves [] = []
-saves (f ∷ fs) = saves fs ++ (f.stop ∷ (4096 - length (upper fs)) ∷ length (marks fs) ∷ [])
+saves (f ∷ fs) = saves fs ++ (record { end = f.stop; base = 4096 - length (upper fs); first = length (marks fs) } ∷ [])
 
 -- the bytes of the lists around
 abbrev pub Framed : Bytes → List Open → ℕ → Type 0
@@ -51,9 +52,9 @@ pub record Pooled (b : Bytes) (ss : List Str) : Type 0 where
 pub record Held (b : Bytes) (s : Walk) (ss : List Str) (fs : List Open) (own : List Placed) (ls : List Ended) : Type 0 where
   pub pool : Pooled b ss
   pub pool_is : s.pool ≡ length ss
-  pub left : resume fs own ls s.at (drop s.at (take s.end b)) ≡ resume [] [] [] 0 b
-  pub framed : Framed b fs s.end
-  pub within : s.at ≤ s.end
+  pub left : resume fs own ls s.at (drop s.at (take s.span.end b)) ≡ resume [] [] [] 0 b
+  pub framed : Framed b fs s.span.end
+  pub within : s.at ≤ s.span.end
   pub actions : weight one fs own ls ≡ s.actions
   pub values : weight valued fs own ls ≡ s.values
   pub good : weight (bad (length ss)) fs own ls ≡ 1
@@ -67,33 +68,32 @@ pub record Laid (w : List ℕ) (s : Walk) (fs : List Open) (own : List Placed) (
   pub long : 16384 ≤ length w
   pub words : w ≡ layout (joined (map settled ls)) (raw own ++ upper fs) (ends_from 0 (map settled ls)) (length w)
   pub low : length (joined (map settled ls)) ≡ s.low
-  pub top : length (raw own) + s.top ≡ s.base
-  pub base : length (upper fs) + s.base ≡ 4096
+  pub top : length (raw own) + s.top ≡ s.span.base
+  pub base : length (upper fs) + s.span.base ≡ 4096
   pub lists : length ls ≡ s.lists
   pub room : s.low + (4096 - s.top) + length fs ≤ s.actions + s.values
   pub fewer : s.lists + length fs < s.actions
 
-pub record Noted (t : List ℕ) (s : Walk) (fs : List Open) (own : List Placed) : Type 0 where
-  pub long : length t ≡ 1024
-  pub table : take s.places t ≡ marks fs ++ positions own
-  pub first : length (marks fs) ≡ s.first
-  pub places : length own + s.first ≡ s.places
+pub record Noted (s : Walk) (fs : List Open) (own : List Placed) : Type 0 where
+  pub long : length s.table ≡ 1024
+  pub table : take s.places s.table ≡ marks fs ++ positions own
+  pub first : length (marks fs) ≡ s.span.first
+  pub places : length own + s.span.first ≡ s.places
   pub few : s.places ≤ s.actions
-  pub rising : Ordered t 0 s.places
-  pub below : (i : ℕ) → i < s.places → get_or t i 0 < s.at
+  pub rising : Ordered s.table 0 s.places
+  pub below : (i : ℕ) → i < s.places → get_or s.table i 0 < s.at
 
-pub record Kept (o : List ℕ) (s : Walk) (fs : List Open) : Type 0 where
-  pub long : length o ≡ 3072
-  pub saved : take (s.depth * 3) o ≡ saves fs
+pub record Kept (s : Walk) (fs : List Open) : Type 0 where
+  pub long : length s.outer ≡ 1024
+  pub saved : take s.depth s.outer ≡ saves fs
   pub depth : length fs ≡ s.depth
 
-pub record Stands (b w t o : List ℕ) (s : Walk) : Type 0 where
-  pub reading : s.phase ≡ 0
+pub record Stands (b w : List ℕ) (s : Walk) : Type 0 where
   pub strings : List Str
   pub around : List Open
   pub own : List Placed
   pub lists : List Ended
   pub held : Held b s strings around own lists
   pub laid : Laid w s around own lists
-  pub noted : Noted t s around own
-  pub kept : Kept o s around
+  pub noted : Noted s around own
+  pub kept : Kept s around

@@ -1,13 +1,21 @@
 -- How reading stands after a step: going on, at its end, or refused.
-use Rattle.std.specs.Prelude.{ℕ, suc, ◌+◌, ◌-◌, ◌*◌, ◌<◌, ◌≡◌, List, cond, eqb, length, get_or}
+use Rattle.std.specs.Prelude.{ℕ, ◌+◌, ◌-◌, ◌*◌, ◌<◌, ◌≡◌, List, true, false, Option, Some, MatchOption, length, take, drop}
 use Rattle.std.proofs.Math.Option.{none, some}
 use Rattle.lowering.specs.Builder.{limits01}
 use Rattle.action_format.specs.Lists.{Lists}
+use Rattle.action_format.specs.Bytes.{Bytes}
 use Rattle.action_format.specs.Decode.{decode}
 use Rattle.list_slice.specs.Read.{read_words}
 use Rattle.definition.specs.Outcome.{byte_limits}
+use Rattle.record_reader.specs.declared.Head.{Head}
+use Rattle.record_reader.specs.Heads.{head_at}
 use Rattle.action_reader.specs.declared.walk.Walk.{Walk}
+use Rattle.action_reader.specs.State.{is_end}
 use Rattle.action_reader.specs.View.{Stands}
+
+-- the bytes are no action bytes where the answer is `None`
+abbrev pub OrRefused : {A : Type 0} → Bytes → Option A → (A → Type 0) → Type 0
+OrRefused b r P = MatchOption r (decode (byte_limits limits01) b ≡ none) P
 
 -- the lists are read, and the slice is theirs
 pub record Done (b w : List ℕ) : Type 0 where
@@ -15,25 +23,27 @@ pub record Done (b w : List ℕ) : Type 0 where
   pub is : decode (byte_limits limits01) b ≡ some lists
   pub words : w ≡ read_words limits01 lists (length w)
 
-pub data Walked (b w t o : List ℕ) (s : Walk) : Type 0 where
-  going : Stands b w t o s → Walked b w t o s
-  done : s.phase ≡ 1 → Done b w → Walked b w t o s
-  refused : s.phase ≡ 2 → decode (byte_limits limits01) b ≡ none → Walked b w t o s
-
 -- what is left to do
-abbrev pub ahead : ℕ → Walk → ℕ
-ahead n s = cond (eqb s.phase 0) (suc ((n - s.at) * 2 + s.depth)) 0
+abbrev pub ahead : Walk → ℕ
+ahead s = (length s.bytes.now - s.at) * 2 + s.depth
 
-pub record Stepped (b : List ℕ) (s r : Walk) (w t o : List ℕ) : Type 0 where
-  pub walked : Walked b w t o r
-  pub less : ahead (length b) r < ahead (length b) s
+-- reading goes on
+pub record Further (s r : Walk) (w : List ℕ) : Type 0 where
+  pub same : r.bytes ≡ s.bytes
+  pub stands : Stands s.bytes.now w r
+  pub less : ahead r < ahead s
+
+abbrev pub Stepped : {A : Type 0} → (s r : Walk) → Option A → List ℕ → Type 0
+Stepped s r o w = OrRefused s.bytes.now o (λ _. Further s r w)
 
 -- neither a body nor the top list ends here
-pub record Inside (b : List ℕ) (s : Walk) : Type 0 where
-  pub body : (s.depth ≡ 0 → ⊥) → s.at ≡ s.end → ⊥
-  pub top : s.depth ≡ 0 → s.at + 1 ≡ s.end → get_or b s.at 0 ≡ 0 → ⊥
+pub record Inside (s : Walk) : Type 0 where
+  pub body : (s.depth ≡ 0 → ⊥) → s.at ≡ s.span.end → ⊥
+  pub top : s.depth ≡ 0 → is_end (drop s.at s.bytes.now) ≡ false
 
--- reading is over
-pub data Over (b w : List ℕ) (s : Walk) : Type 0 where
-  found : s.phase ≡ 1 → Done b w → Over b w s
-  nowhere : s.phase ≡ 2 → decode (byte_limits limits01) b ≡ none → Over b w s
+-- the record that is next keeps the rules by itself, and there is room for its action
+pub record Next (w : List ℕ) (s : Walk) (h : Head) : Type 0 where
+  pub stands : Stands s.bytes.now w s
+  pub head : Some h ≡ head_at (take s.span.end s.bytes.now) s.at s.pool
+  pub fits : h.fits ≡ true
+  pub few : s.actions < 1024

@@ -4,9 +4,11 @@
 ghost use Rattle.std.specs.Prelude.{length};
 ghost use Rattle.lowering.specs.Builder.{limits01};
 ghost use Rattle.definition.specs.Left.{Reads};
-ghost use Rattle.action_reader.specs.Answers.{number_of, length_of};
+ghost use Rattle.refusal.specs.Refusal.{refusal_of};
+ghost use Rattle.action_reader.specs.Answers.{length_of};
 
-use crate::reader::walk_all;
+use crate::reader::read_lists;
+use refusal::Refusal;
 use zeros::clear_words;
 
 mod begin;
@@ -18,24 +20,20 @@ mod step;
 mod targets;
 mod walk;
 
-// How many bytes were read, or the refusal's number.
-#[derive(Clone, Copy)]
-pub enum Answer {
-    Read(usize),
-    Refused(u32),
-}
+// The fewest words that a list slice has. The caller's slice may be longer, so no type of it says so, and what writes it requires it.
+const LIST_WORDS: usize = 16384;
 
-pub fn read(bytes: &[u8], list: &mut [u32]) -> Answer
-    ensures { Reads limits01 bytes.now (length list.old) (number_of result) (length_of result) list.new }
+// How many bytes were read.
+pub fn read(bytes: &[u8], list: &mut [u32]) -> Result<usize, Refusal>
+    ensures { Reads limits01 bytes.now (length list.old) (refusal_of result) (length_of result) list.new }
 {
     clear_words(list);
-    if list.len() < 16384 {
-        return Answer::Refused(13);
+    if list.len() < LIST_WORDS {
+        return Err(Refusal::ShortList);
     }
-    let s = walk_all(bytes, list);
-    if s.phase == 1 {
-        return Answer::Read(bytes.len());
-    }
-    clear_words(list);
-    Answer::Refused(14)
+    let Some(()) = read_lists(bytes, list) else {
+        clear_words(list);
+        return Err(Refusal::NotActions);
+    };
+    Ok(bytes.len())
 }

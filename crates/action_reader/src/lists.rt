@@ -1,13 +1,18 @@
 // The end of a list: its branches get their places, and it moves down to the finished lists.
-ghost use Rattle.std.specs.Prelude.{◌≡◌, List, ℕ, ◌+◌, ◌-◌, ◌*◌, ◌<◌, ◌≤◌, length, get_or};
+ghost use Rattle.std.specs.Prelude.{◌≡◌, List, ℕ, ◌+◌, ◌*◌, ◌<◌, ◌≤◌, length, get_or, IfSome};
 ghost use Rattle.list_slice.specs.Entry.{Entry};
 ghost use Rattle.builder.specs.Entries.{put3};
-ghost use Rattle.action_reader.specs.Places.{part};
-ghost use Rattle.action_reader.specs.Lists.{Ready, Given, SettledAs, EndedAs, ClosedAs, FinishedAs};
+ghost use Rattle.action_reader.specs.Lists.{Ready, Given, SettledAs, EndedAs, ClosedAs};
 
 use crate::places::place_of;
-use crate::walk::{Walk, refuse};
+use crate::walk::Walk;
 use builder::entries::put;
+
+// Where the table of the lists' ends begins.
+const LIST_ENDS: usize = 13312;
+
+// The code of a function's entry.
+const FUNCTION: u32 = 256;
 
 // Entry `from` moves to `to`, with another first word.
 fn move_as(list: &mut [u32], to: usize, from: usize, first: u32)
@@ -22,93 +27,53 @@ fn move_as(list: &mut [u32], to: usize, from: usize, first: u32)
     put(list, to, code, first, second);
 }
 
-// Whether every branch leads to a place, and where the list's entries end below.
-#[derive(Clone, Copy)]
-pub struct Settled {
-    pub landed: bool,
-    pub low: usize,
-}
-
-pub fn settle_list(list: &mut [u32], table: &[u32; 1024], s: Walk) -> Settled
-    requires { Ready list.old table.now s }
-    ensures low_bound { result.low ≤ 4096 }
-    ensures settled_as { (low xs up : List Entry) (ends : List ℕ) → Given list.old s low xs up ends →
-        SettledAs (part table.now s.first s.places s.at) low xs up ends result list.new }
-{
-    let mut low = s.low;
-    let mut top = s.top;
-    let end = s.base;
-    while top != end {
-        let at = top * 3;
-        let code = list[at];
-        let first = list[at + 1];
-        let p = place_of(table, s.first, s.places, s.at, code, first);
-        if !p.found {
-            return Settled { landed: false, low };
+impl Walk<'_> {
+    // Settles the branches of the present list and moves it to the finished ones. The entry below which it ends, or `None` if a branch leads to no place.
+    pub fn settle_list(&self, list: &mut [u32]) -> Option<usize>
+        requires { Ready list.old self.now }
+        ensures low_bound { IfSome result (λ n. n ≤ 4096) }
+        ensures settled_as { (low xs up : List Entry) (ends : List ℕ) → Given list.old self.now low xs up ends → SettledAs self.now low xs up ends result list.new }
+    {
+        let positions = &self.table[self.span.first..self.places];
+        let mut low = self.low;
+        for top in self.top..self.span.base {
+            let at = top * 3;
+            let first = place_of(positions, self.at, list[at], list[at + 1])?;
+            move_as(list, low, top, first);
+            low += 1;
         }
-        move_as(list, low, top, p.word);
-        low += 1;
-        top += 1;
+        Some(low)
     }
-    Settled { landed: true, low }
-}
 
-// The present list joins the finished ones, and its end the table of ends.
-fn end_list(list: &mut [u32], table: &[u32; 1024], s: Walk) -> Settled
-    requires { Ready list.old table.now s }
-    ensures low_bound { result.low ≤ 4096 }
-    ensures ended_as { (low xs up : List Entry) (ends : List ℕ) → Given list.old s low xs up ends → length ends ≡ s.lists →
-        EndedAs (part table.now s.first s.places s.at) low xs up ends result list.new }
-{
-    let r = settle_list(list, table, s);
-    let at = 13312 + s.lists;
-    list[at] = r.low as u32;
-    r
-}
-
-// A body has ended: its function is an action of the list around it.
-pub fn close(list: &mut [u32], table: &[u32; 1024], outer: &[usize; 3072], s: Walk) -> Walk
-    requires ready { Ready list.old table.now s }
-    requires base_nonzero { 0 < s.base }
-    requires first_nonzero { 0 < s.first }
-    requires depth_nonzero { 0 < s.depth }
-    requires depth_bound { s.depth ≤ 1024 }
-    ensures { (low xs up : List Entry) (ends : List ℕ) → Given list.old s low xs up ends → length ends ≡ s.lists →
-        ClosedAs table.now outer.now low xs up ends s result list.new }
-{
-    let e = end_list(list, table, s);
-    if !e.landed {
-        return refuse(s);
+    // The present list joins the finished ones, and its end the table of ends.
+    pub fn end_list(&self, list: &mut [u32]) -> Option<usize>
+        requires { Ready list.old self.now }
+        ensures { (low xs up : List Entry) (ends : List ℕ) → Given list.old self.now low xs up ends → length ends ≡ self.now.lists →
+            EndedAs self.now low xs up ends result list.new }
+    {
+        let low = self.settle_list(list)?;
+        list[LIST_ENDS + self.lists] = low as u32;
+        Some(low)
     }
-    let first = s.first - 1;
-    let top = s.base - 1;
-    put(list, top, 256, (s.lists + 1) as u32, table[first]);
-    let k = (s.depth - 1) * 3;
-    let mut r = s;
-    r.end = outer[k];
-    r.low = e.low;
-    r.top = top;
-    r.base = outer[k + 1];
-    r.lists = s.lists + 1;
-    r.places = s.first;
-    r.first = outer[k + 2];
-    r.depth = s.depth - 1;
-    r
-}
 
-// The top list has ended.
-pub fn finish(list: &mut [u32], table: &[u32; 1024], s: Walk) -> Walk
-    requires { Ready list.old table.now s }
-    ensures { (low xs up : List Entry) (ends : List ℕ) → Given list.old s low xs up ends → length ends ≡ s.lists →
-        FinishedAs table.now low xs up ends s result list.new }
-{
-    let e = end_list(list, table, s);
-    if !e.landed {
-        return refuse(s);
+    // A body has ended: its function is an action of the list around it.
+    pub fn close(&mut self, list: &mut [u32]) -> Option<()>
+        requires ready { Ready list.old self.old }
+        requires base_nonzero { 0 < self.old.span.base }
+        requires first_nonzero { 0 < self.old.span.first }
+        requires depth_nonzero { 0 < self.old.depth }
+        requires depth_bound { self.old.depth ≤ 1024 }
+        ensures { (low xs up : List Entry) (ends : List ℕ) → Given list.old self.old low xs up ends → length ends ≡ self.old.lists →
+            ClosedAs low xs up ends self.old self.new result list.new }
+    {
+        self.low = self.end_list(list)?;
+        self.lists += 1;
+        self.top = self.span.base - 1;
+        self.places = self.span.first;
+        let position = self.table[self.places - 1];
+        put(list, self.top, FUNCTION, self.lists as u32, position);
+        self.depth -= 1;
+        self.span = self.outer[self.depth];
+        Some(())
     }
-    let mut r = s;
-    r.phase = 1;
-    r.low = e.low;
-    r.lists = s.lists + 1;
-    r
 }

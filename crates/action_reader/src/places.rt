@@ -1,86 +1,34 @@
 // The place of a branch's target among the positions of a list's actions.
-ghost use Rattle.std.specs.Prelude.{◌+◌, ◌-◌, ◌<◌, ◌≤◌, length};
-ghost use Rattle.action_reader.specs.Places.{Ordered, IsPlace, IsSeek, Sought};
+ghost use Rattle.std.specs.Prelude.{◌≡◌, ◌≤◌, length};
+ghost use Rattle.action_reader.specs.Places.{Rises, IsSeek, IsPlace};
 
-// What is sought, and whether it was found.
-#[derive(Clone, Copy)]
-pub struct Place {
-    pub found: bool,
-    pub word: u32,
-}
+use record_reader::codes;
 
-// The first index from `from` on, before `to`, at which the table is not below x; `to` if there is none.
-fn first_from(table: &[u32; 1024], from: usize, to: usize, x: u32) -> usize
-    requires from_le_to { from ≤ to }
-    requires to_bound { to ≤ 1024 }
-    requires ordered { Ordered table.now from to }
-    ensures { Sought table.now from to x result }
-{
-    let mut low = from;
-    let mut high = to;
-    while low < high {
-        let middle = low + (high - low) / 2;
-        if table[middle] < x {
-            low = middle + 1;
-        } else {
-            high = middle;
-        }
-    }
-    low
-}
+const JUMP: u32 = codes::JUMP as u32;
+
+const IF: u32 = codes::IF as u32;
 
 // The place that begins at byte x, in a list that stops at byte `stop`.
-fn seek_place(table: &[u32; 1024], from: usize, to: usize, stop: usize, x: u32) -> Place
-    requires from_le_to { from ≤ to }
-    requires to_bound { to ≤ 1024 }
-    requires to_in_bounds { to ≤ length table.now }
-    requires ordered { Ordered table.now from to }
-    ensures { IsSeek table.now from to stop x result }
+fn seek(positions: &[u32], stop: usize, x: u32) -> Option<u32>
+    requires few { length positions.now ≤ 1024 }
+    requires rises { Rises positions.now }
+    ensures { IsSeek positions.now stop x result }
 {
-    let i = first_from(table, from, to, x);
-    if i < to {
-        if table[i] == x {
-            return Place {
-                found: true,
-                word: (i - from) as u32,
-            };
-        }
-    }
-    if x as usize == stop {
-        return Place {
-            found: true,
-            word: (to - from) as u32,
-        };
-    }
-    Place {
-        found: false,
-        word: 0,
+    match positions.binary_search(&x) {
+        Ok(i) => Some(i as u32),
+        Err(_) if x as usize == stop => Some(positions.len() as u32),
+        Err(_) => None,
     }
 }
 
 // The first word of an entry in a list that stops at byte `stop`: a branch's target becomes its place, others stay.
-pub fn place_of(
-    table: &[u32; 1024],
-    from: usize,
-    to: usize,
-    stop: usize,
-    code: u32,
-    first: u32,
-) -> Place
-    requires from_le_to { from ≤ to }
-    requires to_bound { to ≤ 1024 }
-    requires to_in_bounds { to ≤ length table.now }
-    requires ordered { Ordered table.now from to }
-    ensures { IsPlace table.now from to stop code first result }
+pub fn place_of(positions: &[u32], stop: usize, code: u32, first: u32) -> Option<u32>
+    requires few { length positions.now ≤ 1024 }
+    requires rises { Rises positions.now }
+    ensures { IsPlace positions.now stop code first result }
 {
-    if code == 0x99 {
-        return seek_place(table, from, to, stop, first);
-    }
-    if code == 0x9D {
-        return seek_place(table, from, to, stop, first);
-    }
-    Place {
-        found: true,
-        word: first,
+    match code {
+        JUMP | IF => seek(positions, stop, first),
+        _ => Some(first),
     }
 }

@@ -1,33 +1,44 @@
 // The walk over all records.
 ghost use Rattle.std.specs.Prelude.{◌≡◌, ◌≤◌, length};
 ghost use Rattle.list_slice.specs.Words.{zeros_of};
-ghost use Rattle.action_reader.specs.Walked.{Over};
+ghost use Rattle.action_reader.specs.Walked.{OrRefused, Done};
 
 use crate::begin::begin;
-use crate::step::step;
-use crate::walk::Walk;
+use crate::walk::{MAX_ACTIONS, MAX_ENTRIES, Span, Walk};
 
-fn walk(bytes: &[u8], list: &mut [u32], table: &mut [u32; 1024], outer: &mut [usize; 3072]) -> Walk
+// `None` if the bytes are not action bytes.
+pub fn read_lists(bytes: &[u8], list: &mut [u32]) -> Option<()>
     requires in_bounds { 16384 ≤ length list.old }
     requires list_value { list.old ≡ zeros_of (length list.old) }
-    requires table_len { length table.old ≡ 1024 }
-    requires outer_len { length outer.old ≡ 3072 }
-    ensures { Over bytes.now list.new result }
+    ensures { OrRefused bytes.now result (λ x. Done bytes.now list.new) }
 {
-    let mut s = begin(bytes, list, table);
-    while s.phase == 0 {
-        s = step(bytes, list, table, outer, s);
+    let (at, pool) = begin(bytes, list)?;
+    let mut walk = Walk {
+        bytes,
+        at,
+        span: Span {
+            end: bytes.len(),
+            base: MAX_ENTRIES,
+            first: 0,
+        },
+        actions: 1,
+        values: 0,
+        low: 0,
+        top: MAX_ENTRIES - 1,
+        lists: 0,
+        places: 1,
+        depth: 0,
+        pool,
+        table: [0; MAX_ACTIONS],
+        outer: [Span {
+            end: 0,
+            base: 0,
+            first: 0,
+        }; MAX_ACTIONS],
+    };
+    while !walk.is_over() {
+        walk.step(list)?;
     }
-    s
-}
-
-// Lends the table of positions and the room for what is kept of the lists around.
-pub fn walk_all(bytes: &[u8], list: &mut [u32]) -> Walk
-    requires in_bounds { 16384 ≤ length list.old }
-    requires list_value { list.old ≡ zeros_of (length list.old) }
-    ensures { Over bytes.now list.new result }
-{
-    let mut table = [0u32; 1024];
-    let mut outer = [0usize; 3072];
-    walk(bytes, list, &mut table, &mut outer)
+    walk.end_list(list)?;
+    Some(())
 }

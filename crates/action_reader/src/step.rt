@@ -1,82 +1,68 @@
-// One step: a record, or the end of a list.
+// One step: a record, or the end of a body.
+ghost use Rattle.std.specs.Prelude.{◌≡◌, false};
+ghost use Rattle.action_reader.specs.State.{is_over};
 ghost use Rattle.action_reader.specs.View.{Stands};
-ghost use Rattle.action_reader.specs.Walked.{Stepped, Inside};
+ghost use Rattle.action_reader.specs.Walked.{Stepped, Inside, Next};
 
-use crate::lists::{close, finish};
-use crate::push::push;
 use crate::targets::target_of;
-use crate::walk::{Walk, open_body, refuse, single};
-use record_reader::{Kind, head_at};
+use crate::walk::{MAX_ACTIONS, MAX_VALUES, Walk};
+use record_reader::{Head, Kind, head_at};
 
-// The record at which reading stands. A pool is none: it is the first record, and no other.
-fn next_record(
-    bytes: &[u8],
-    list: &mut [u32],
-    table: &mut [u32; 1024],
-    outer: &mut [usize; 3072],
-    s: Walk,
-) -> Walk
-    requires stands { Stands bytes.now list.old table.old outer.old s }
-    requires inside { Inside bytes.now s }
-    ensures { Stepped bytes.now s result list.new table.new outer.new }
-{
-    let end = s.end;
-    let h = head_at(&bytes[..end], s.at, s.pool);
-    if !h.fits {
-        return refuse(s);
-    }
-    if 1024 <= s.actions {
-        return refuse(s);
-    }
-    let next = h.next;
-    let kind = h.kind;
-    match kind {
-        Kind::Nothing => refuse(s),
-        Kind::Pool { strings: _ } => refuse(s),
-        Kind::Plain { code, first } => single(list, table, s, code, first, next),
-        Kind::Branch { code, offset } => {
-            let t = target_of(s.at, offset);
-            if !t.fits {
-                return refuse(s);
+impl Walk<'_> {
+    // A pool is no action: it is the first record, and no other.
+    fn take(&mut self, list: &mut [u32], h: Head) -> Option<()>
+        requires { Next list.old self.old h }
+        ensures { Stepped self.old self.new result list.new }
+    {
+        match h.kind {
+            Kind::Pool { .. } => return None,
+            Kind::Plain { code, first } => self.single(list, code, first, h.next),
+            Kind::Branch { code, offset } => {
+                let target = target_of(self.at, offset)?;
+                self.single(list, code, target, h.next);
             }
-            single(list, table, s, code, t.byte, next)
-        }
-        Kind::Push { values } => {
-            if 2048 - s.values < values {
-                return refuse(s);
+            Kind::Push { values } => {
+                if MAX_VALUES - self.values < values {
+                    return None;
+                }
+                self.push(list, values, h.next);
             }
-            push(bytes, list, table, s, values, next)
-        }
-        Kind::Function { size } => {
-            if end - next < size {
-                return refuse(s);
+            Kind::Function { size } => {
+                if self.span.end - h.next < size {
+                    return None;
+                }
+                self.open_body(size, h.next);
             }
-            open_body(table, outer, s, size, next)
         }
+        Some(())
     }
-}
 
-pub fn step(
-    bytes: &[u8],
-    list: &mut [u32],
-    table: &mut [u32; 1024],
-    outer: &mut [usize; 3072],
-    s: Walk,
-) -> Walk
-    requires { Stands bytes.now list.old table.old outer.old s }
-    ensures { Stepped bytes.now s result list.new table.new outer.new }
-{
-    let at = s.at;
-    if s.depth != 0 {
-        if at == s.end {
-            return close(list, table, outer, s);
+    // The record at which reading stands.
+    fn next_record(&mut self, list: &mut [u32]) -> Option<()>
+        requires stands { Stands self.old.bytes.now list.old self.old }
+        requires inside { Inside self.old }
+        ensures { Stepped self.old self.new result list.new }
+    {
+        let h = head_at(&self.bytes[..self.span.end], self.at, self.pool)?;
+        if !h.fits {
+            return None;
         }
-        return next_record(bytes, list, table, outer, s);
-    }
-    if at + 1 == s.end {
-        if bytes[at] == 0 {
-            return finish(list, table, s);
+        if MAX_ACTIONS <= self.actions {
+            return None;
         }
+        self.take(list, h)
     }
-    next_record(bytes, list, table, outer, s)
+
+    pub fn step(&mut self, list: &mut [u32]) -> Option<()>
+        requires stands { Stands self.old.bytes.now list.old self.old }
+        requires more { is_over self.old ≡ false }
+        ensures { Stepped self.old self.new result list.new }
+    {
+        if self.depth != 0 {
+            if self.at == self.span.end {
+                return self.close(list);
+            }
+        }
+        self.next_record(list)
+    }
 }

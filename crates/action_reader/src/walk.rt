@@ -1,99 +1,93 @@
 // Where reading is, and the steps that one record makes.
-ghost use Rattle.std.specs.Prelude.{◌≡◌, ◌+◌, ◌-◌, ◌*◌, ◌<◌, ◌≤◌, length, set};
+ghost use Rattle.std.specs.Prelude.{◌≡◌, ◌+◌, ◌-◌, ◌<◌, ◌≤◌, length};
 ghost use Rattle.builder.specs.Entries.{put3};
-ghost use Rattle.action_reader.specs.State.{refused_at, single_after, open_after};
+ghost use Rattle.action_reader.specs.State.{advanced, single_after, open_after, Roomy, is_over};
 
 use builder::entries::put;
 
-// The present list is read from `at` to `end`. Its entries stand from entry `top` to `base`, its positions in the table from `first` to `places`.
-// Finished lists stand below entry `low`. The phase is 0 while reading, 1 at the end, 2 after a refusal.
+// The most entries, actions, and pushed values that the list slice has room for.
+pub const MAX_ENTRIES: usize = 4096;
+
+pub const MAX_ACTIONS: usize = 1024;
+
+pub const MAX_VALUES: usize = 2048;
+
+// Where a list ends in the bytes and among the entries, and where its positions begin in the table.
 #[derive(Clone, Copy)]
-pub struct Walk {
-    pub phase: u32,
-    pub at: usize,
+pub struct Span {
     pub end: usize,
+    pub base: usize,
+    pub first: usize,
+}
+
+// The present list is read from `at` on. Its entries stand from entry `top` on, its positions in the table before `places`. Finished lists stand below
+// entry `low`. `outer` has the spans of the lists around, as many as `depth` says. The list slice is no field, and no ghost field says what its words stand for:
+// after a refusal they stand for nothing.
+#[derive(Drop)]
+pub struct Walk<'a> {
+    pub bytes: &'a [u8],
+    pub at: usize,
+    pub span: Span,
     pub actions: usize,
     pub values: usize,
     pub low: usize,
     pub top: usize,
-    pub base: usize,
     pub lists: usize,
     pub places: usize,
-    pub first: usize,
     pub depth: usize,
     pub pool: usize,
+    pub table: [u32; MAX_ACTIONS],
+    pub outer: [Span; MAX_ACTIONS],
 }
 
-pub fn refuse(s: Walk) -> Walk
-    ensures { result ≡ refused_at s }
-{
-    let mut r = s;
-    r.phase = 2;
-    r
-}
+impl Walk<'_> {
+    // Whether only the top list's end is left: End, as the last byte.
+    pub fn is_over(&self) -> bool
+        ensures { result ≡ is_over self.now }
+    {
+        self.depth == 0 && matches!(self.bytes.get(self.at..), Some([0]))
+    }
 
-// An action of one entry, whose record ends before `next`.
-pub fn single(
-    list: &mut [u32],
-    table: &mut [u32; 1024],
-    s: Walk,
-    code: u32,
-    first: usize,
-    next: usize,
-) -> Walk
-    requires in_bounds { 16384 ≤ length list.old }
-    requires top_nonzero { 0 < s.top }
-    requires top_bound { s.top ≤ 4096 }
-    requires places_bound { s.places < 1024 }
-    requires actions_bound { s.actions < 1024 }
-    requires at_bound { s.at < 4294967296 }
-    requires first_bound { first < 4294967296 }
-    ensures value { result ≡ single_after s next }
-    ensures list_after { list.new ≡ put3 list.old (s.top - 1) code first 0 }
-    ensures table_after { table.new ≡ set table.old s.places s.at }
-{
-    let top = s.top - 1;
-    put(list, top, code, first as u32, 0);
-    let places = s.places;
-    table[places] = s.at as u32;
-    let mut r = s;
-    r.at = next;
-    r.actions = s.actions + 1;
-    r.top = top;
-    r.places = places + 1;
-    r
-}
+    // An action's record, which ends before `next`: its position joins the table.
+    pub fn advance(&mut self, next: usize)
+        requires { Roomy self.old }
+        ensures { self.new ≡ advanced self.old next }
+    {
+        self.table[self.places] = self.at as u32;
+        self.at = next;
+        self.actions += 1;
+        self.places += 1;
+    }
 
-// A function's body is the present list from now on; `outer` keeps where the list around ends, in the bytes, among the entries and in the table.
-pub fn open_body(
-    table: &mut [u32; 1024],
-    outer: &mut [usize; 3072],
-    s: Walk,
-    size: usize,
-    next: usize,
-) -> Walk
-    requires depth_bound { s.depth < 1024 }
-    requires places_bound { s.places < 1024 }
-    requires actions_bound { s.actions < 1024 }
-    requires at_bound { s.at < 4294967296 }
-    requires size_bound { next + size ≤ s.end }
-    ensures value { result ≡ open_after s size next }
-    ensures table_after { table.new ≡ set table.old s.places s.at }
-    ensures outer_after { outer.new ≡ set (set (set outer.old (s.depth * 3) s.end) (s.depth * 3 + 1) s.base) (s.depth * 3 + 2) s.first }
-{
-    let places = s.places;
-    table[places] = s.at as u32;
-    let k = s.depth * 3;
-    outer[k] = s.end;
-    outer[k + 1] = s.base;
-    outer[k + 2] = s.first;
-    let mut r = s;
-    r.at = next;
-    r.end = next + size;
-    r.actions = s.actions + 1;
-    r.base = s.top;
-    r.places = places + 1;
-    r.first = places + 1;
-    r.depth = s.depth + 1;
-    r
+    // An action of one entry, whose record ends before `next`.
+    pub fn single(&mut self, list: &mut [u32], code: u32, first: usize, next: usize)
+        requires in_bounds { 16384 ≤ length list.old }
+        requires top_nonzero { 0 < self.old.top }
+        requires top_bound { self.old.top ≤ 4096 }
+        requires roomy { Roomy self.old }
+        requires first_bound { first < 4294967296 }
+        ensures value { self.new ≡ single_after self.old next }
+        ensures list_after { list.new ≡ put3 list.old (self.old.top - 1) code first 0 }
+    {
+        self.top -= 1;
+        put(list, self.top, code, first as u32, 0);
+        self.advance(next);
+    }
+
+    // A function's body is the present list from now on.
+    pub fn open_body(&mut self, size: usize, next: usize)
+        requires depth_bound { self.old.depth < 1024 }
+        requires roomy { Roomy self.old }
+        requires size_bound { next + size ≤ self.old.span.end }
+        ensures { self.new ≡ open_after self.old size next }
+    {
+        self.advance(next);
+        self.outer[self.depth] = self.span;
+        self.span = Span {
+            end: next + size,
+            base: self.top,
+            first: self.places,
+        };
+        self.depth += 1;
+    }
 }

@@ -1,61 +1,48 @@
 -- The answer is that of the definition.
 use Prim.Native.Nat.{ℕ, ◌+◌, ◌-◌, ◌≤◌}
 use mathlib.Core.Path.{◌≡◌, refl, ap, sym, ◌∙◌}
-use mathlib.Core.List.{List, [], ◌∷◌}
+use mathlib.Core.List.{List}
 use mathlib.Core.Bool.{Bool, true, false, cond}
 use native.Mathlib.Omega.{arith}
 use lib.Dec.{T, leb}
 use lib.ListN.{length}
 use borrow.Author.Tests.{eq-eqb}
+use Rattle.std.specs.Prelude.{Result, Ok, Err, IsErrAnd}
+use Rattle.refusal.specs.declared.Refusal.{Refusal}
 use Rattle.script.specs.Write.{Bytes}
 use Rattle.lowering.specs.Builder.{limits01}
-use Rattle.action_format.specs.Lists.{Lists}
 use Rattle.action_format.specs.Strings.{zero_free}
 use Rattle.action_format.specs.Code.{code}
 use Rattle.action_format.specs.Offsets.{all_near}
 use Rattle.action_format.specs.Encode as encoded
-use Rattle.action_format.specs.Encode.{short, unless_refused, encode}
+use Rattle.action_format.specs.Encode.{short, encode}
 use Rattle.action_format.specs.ByList.{body_bytes}
 use Rattle.list_slice.specs.Words.{zeros_of}
 use Rattle.definition.specs.Outcome.{compiled, refused, by_place}
 use Rattle.definition.specs.Compile.{lists_of, written, if_lowered}
-use Rattle.resolver.specs.declared.Answer.{Answer}
 use Rattle.resolver.specs.Lowered.{Lowered}
 use Rattle.resolver.specs.Walk.{count_of}
 use Rattle.resolver.specs.Resolved.{Resolved, Resolves}
 use Rattle.resolver.specs.Resolved as resolver
 use Rattle.resolver.proofs.Stand.{stands}
-use Rattle.action_writer.specs.declared.Written.TheVariants as answer
 use Rattle.action_writer.specs.Bodies.{body_at}
 use Rattle.action_writer.specs.Outcomes.{Leaves, top_bytes, top_outcome, Measured}
 use Rattle.action_writer.proofs.Ready.{same_lists, held}
-
--- no refusal has the number 0
-none-zero : (a b c d : Bool) (bs : List ℕ) → unless_refused ((a, 9) ∷ (b, 10) ∷ (c, 11) ∷ (d, 12) ∷ []) (encoded.bytes bs) ≡ encoded.refused 0 → ⊥
-none-zero false b c d bs e = let z : ◌≡◌ {A = ℕ} 9 0 = cc in omega arith
-none-zero true false c d bs e = let z : ◌≡◌ {A = ℕ} 10 0 = cc in omega arith
-none-zero true true false d bs e = let z : ◌≡◌ {A = ℕ} 11 0 = cc in omega arith
-none-zero true true true false bs e = let z : ◌≡◌ {A = ℕ} 12 0 = cc in omega arith
-none-zero true true true true bs e = let z : ◌≡◌ {A = ℕ} 0 1 = cc in omega arith
-
-not_zero : (l : Lists) (room n : ℕ) → encode l room ≡ encoded.refused n → n ≡ 0 → ⊥
-unfolding encode
-not_zero l room n e z =
-    none-zero (zero_free l) (short (code l)) (all_near (code l)) (leb (length (encoded.written (code l))) room) (encoded.written (code l)) (e ∙ ap encoded.refused z)
 
 is_true : (b : Bool) → T b → b ≡ true
 is_true true h = refl
 is_true false h = absurd h
 
 module _ {F w : List ℕ} (h : Lowered F w) {sizes offsets : List ℕ} where
-  pub refused_leaves : {r : Answer} → Resolves F w h.lists sizes offsets r → (r.refusal ≡ 0 → ⊥) → (o : List ℕ) → o ≡ zeros_of (length o) →
-      Leaves (if_lowered (lists_of limits01 F) (length o)) (length o) (answer.Refused r.refusal) o
+  pub refused_leaves : {r : Result ℕ Refusal} → Resolves F w h.lists sizes offsets r → {x : Refusal} → r ≡ Err x → (a : Result ℕ Refusal) → IsErrAnd a (λ y. y ≡ x) →
+      (o : List ℕ) → o ≡ zeros_of (length o) → Leaves (if_lowered (lists_of limits01 F) (length o)) (length o) a o
   unfolding zeros_of
-  refused_leaves (resolver.refused e) q o z = rw (h.from, e (length o)) (record { number = refl; count = refl; whole = z })
-  refused_leaves (resolver.good x y) q o z = absurd (q refl)
+  refused_leaves (resolver.refused {e = e} f) q (Err y) p o z = let s : e ≡ y = cc in rw (h.from, f (length o), s) (record { number = refl; count = refl; whole = z })
+  refused_leaves (resolver.good x y) q (Err e) p o z = absurd cc
+  refused_leaves r q (Ok n) p o z = absurd p
 
-  pub resolved-is : {r : Answer} → Resolves F w h.lists sizes offsets r → r.refusal ≡ 0 → Resolved F w h.lists sizes offsets
-  resolved-is (resolver.refused {n = n} e) q = absurd (not_zero (by_place h.lists) 0 n (e 0) q)
+  pub resolved-is : {r : Result ℕ Refusal} → Resolves F w h.lists sizes offsets r → {b : ℕ} → r ≡ Ok b → Resolved F w h.lists sizes offsets
+  resolved-is (resolver.refused f) q = absurd cc
   resolved-is (resolver.good x y) q = x
 
   module _ (bytes : Bytes F) (x : Resolved F w h.lists sizes offsets) where

@@ -1,6 +1,6 @@
 -- A list under writing: the entries from i on have been written.
-use Prim.Native.Nat.{ℕ, zero, suc, ◌+◌, ◌-◌, ◌*◌, ◌%◌, ◌≤◌, ◌<◌}
-use mathlib.Core.Path.{◌≡◌, refl, ap, ◌∙◌, subst}
+use Prim.Native.Nat.{ℕ, ◌+◌, ◌-◌, ◌*◌, ◌%◌, ◌≤◌, ◌<◌}
+use mathlib.Core.Path.{◌≡◌, ap, ◌∙◌, subst}
 use mathlib.Core.List.{List, ◌++◌, append_assoc}
 use native.Mathlib.Omega.{arith}
 use lib.ListN.{length, get_or, length-append}
@@ -10,15 +10,25 @@ use Rattle.action_format.specs.Bytes.{Bytes}
 use Rattle.byte_writer.specs.Written.{Room, Wrote}
 use Rattle.byte_writer.specs.Data.{frame, framed, value_data, action_bytes}
 use Rattle.byte_writer.specs.Header.{function_bytes}
-use Rattle.byte_writer.proofs.Writes.{wrote_none, wrote_then, written_append, written_over}
+use Rattle.byte_writer.specs.declared.Writer.{Writer}
+use Rattle.byte_writer.specs.Writer.{Writes, Frames}
+use Rattle.byte_writer.proofs.Writes.{written_long, wrote_none, wrote_then, written_append, written_over}
 use Rattle.byte_writer.proofs.Frames.{frame_length, framed_length}
 use Rattle.resolver.specs.Walk.{start_of, end_of}
 use Rattle.action_writer.specs.Bodies.{body_at, items_from, bytes_of}
-use Rattle.action_writer.specs.Steps.{Joined, an-action, a-first-value, a-later-value, sort_of, OpenIn, Marks, Defines, Acts, Begins, Continues, Step, WritableList}
+use Rattle.action_writer.specs.Steps.{Joined, Joins, an-action, a-first-value, a-later-value, sort_of, OpenIn, Defines, Acts, Begins, Continues, Step, WritableList}
 
-pub start_next : (w : List ℕ) (j : ℕ) → (j ≡ 0 → ⊥) → end_of w (j - 1) ≡ start_of w j
-start_next w zero h = absurd (h refl)
-start_next w (suc j) h = let e : suc j - 1 ≡ j = omega arith in rw e
+-- a value written, and the length of the record that began there
+pub later_joins : {w w₁ w₂ : Writer} {begun : ℕ} {v : Bytes} → Writes w v w₁ → Frames w₁ begun 0x96 w₂ → Joins w begun v w₂
+later_joins {w₁ = w₁} {w₂ = w₂} {begun = begun} p q = record {
+  same_script = q.same_script ∙ p.same_script;
+  same_output = q.same_output ∙ p.same_output;
+  joined = record {
+    after = q.same_place ∙ p.wrote.after;
+    output = rw (← p.wrote.output, q.same_place) q.output;
+    long = ap length q.output ∙ written_long w₁.output.now begun (frame 0x96 (w₁.at - (begun + 3))) ∙ p.wrote.long;
+  };
+}
 
 -- the sort of an entry by the tests of its code
 
@@ -60,10 +70,7 @@ module _ {F : List ℕ} {l : Layout} {w sizes offsets : List ℕ} {j : ℕ} (s :
   pub building_start : Building F l w sizes offsets j o at o (end_of w j) at at
   building_start = record { low = s.order; high = omega arith; wrote = rw s.none (wrote_none o at); opened = s.start at at }
 
-  pub building_done : {o' : List ℕ} {i next begun : ℕ} → Building F l w sizes offsets j o at o' i next begun → i ≡ start_of w j → Wrote o at (body_at F w j) next o'
-  building_done b e = rw (s.body, ← e) b.wrote
-
-  module _ (room : Room o at (body_at F w j)) {o' : List ℕ} {i next begun : ℕ} (b : Building F l w sizes offsets j o at o' i next begun) (q : i ≡ start_of w j → ⊥) where
+  module _ (room : Room o at (body_at F w j)) {o' : List ℕ} {i next begun : ℕ} (b : Building F l w sizes offsets j o at o' i next begun) (q : start_of w j < i) where
     abbrev e : ℕ
     e = i - 1
 
@@ -96,16 +103,8 @@ module _ {F : List ℕ} {l : Layout} {w sizes offsets : List ℕ} {j : ℕ} (s :
         Building F l w sizes offsets j o at o'' e n f
     next_is k d p = record { low = low; high = omega (arith, high); wrote = rw k (wrote_then given d); opened = p }
 
-    pub in_slice_lem : 16384 ≤ length w → e * 3 + 2 < length w
-    in_slice_lem k = omega (arith, high, s.cap)
-
     pub in_table : e < 4096
     in_table = omega (arith, high, s.cap)
-
-    pub mark_next : get_or w (e * 3) 0 ≡ 257 → Building F l w sizes offsets j o at o' e next begun
-    mark_next c =
-        let m : Marks F l w sizes offsets j e = rw c at step in
-        record { low = low; high = omega (arith, high); wrote = rw m.adds given; opened = m.free at begun }
 
     module _ (c : get_or w (e * 3) 0 ≡ 256) where
       pub defines : Defines F l w sizes offsets j e

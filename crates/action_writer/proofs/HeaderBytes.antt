@@ -24,8 +24,9 @@ use Rattle.action_format.specs.Rules.{header_fits}
 use Rattle.action_format.proofs.Tests.{and_first, and_second}
 use Rattle.list_slice.specs.File.{rec_in, record_in, children_in, header_in}
 use Rattle.tree.specs.Trees.{rows_in, trees}
-use Rattle.byte_writer.specs.Data.{text_at, frame, framed}
-use Rattle.byte_writer.specs.Header.{name_reference, param_data, params_data, marks_word, marks_data, header_code, header_data, params_at, function_data, function_bytes, IsFunction}
+use Rattle.slice_words.specs.References.{text_at}
+use Rattle.byte_writer.specs.Data.{frame, framed}
+use Rattle.byte_writer.specs.Header.{name_reference, param_data, params_data, marks_word, marks_data, header_code, function_in, header_data, params_at, function_data, function_bytes, IsFunction}
 use Rattle.byte_writer.proofs.Params.{text_is}
 use Rattle.action_writer.proofs.PieceBytes.{small_byte}
 
@@ -158,7 +159,7 @@ module _ (F : List ℕ) (l : Layout) (k size : ℕ) (i : IsFunction F l k) where
       by false e = rw (e, text_is F l i.within.sound.short (a - 1), i.within.layout)
 
   module _ (f : T (header_fits (header_in F k))) where
-    are : (header_data F l (row_in (rows_in F) k) (params_at F k) size ≡ data_of_header (header_in F k) size) × (header_code (ltb 1 g) ≡ code_of_header (header_in F k))
+    are : (header_data F l (function_in F k) (params_at F k) size ≡ data_of_header (header_in F k) size) × (header_code (ltb 1 g) ≡ code_of_header (header_in F k))
     unfolding header_data function_of
     are = rw (header_at, named) (both_are name_text g (c % 512) size (params_at F k) (marks_of c) (marks_are c) (rw header_at at f) (ltb 1 g) refl)
 

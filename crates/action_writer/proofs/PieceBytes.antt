@@ -20,7 +20,8 @@ use Rattle.list_slice.specs.Entry.{Pushed, Null, Undefined, Boolean, String, Reg
 use Rattle.list_slice.specs.Words.{pool_in}
 use Rattle.list_slice.specs.Items.{References, value_of}
 use Rattle.list_slice.specs.File.{text_in}
-use Rattle.byte_writer.specs.Data.{text_at, operand_data, value_data, frame, framed, texts_from, pool_data, action_data, action_bytes}
+use Rattle.slice_words.specs.References.{text_at}
+use Rattle.byte_writer.specs.Data.{operand_data, value_data, frame, framed, texts_from, pool_data, action_data, action_bytes}
 use Rattle.resolver.specs.Walk.{references_in}
 use Rattle.resolver.proofs.OpCodes.{op_code, OpCode, op_says}
 

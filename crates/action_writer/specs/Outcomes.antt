@@ -1,26 +1,22 @@
 -- The writer's answer, and what it leaves.
-use Rattle.std.specs.Prelude.{ℕ, ◌-◌, ◌≤◌, ◌≡◌, List, [], ◌∷◌, ◌++◌, cond, leb, length, get_or}
+use Rattle.std.specs.Prelude.{ℕ, ◌-◌, ◌≤◌, ◌≡◌, List, [], ◌∷◌, ◌++◌, cond, leb, length, get_or, Result, Ok, Err}
+use Rattle.refusal.specs.declared.Refusal.{Refusal}
+use Rattle.refusal.specs.Refusal.{refusal_of}
 use Rattle.lowering.specs.Builder.{limits01}
 use Rattle.action_format.specs.Bytes.{Bytes}
 use Rattle.list_slice.specs.Compiled.{lists_in}
 use Rattle.definition.specs.Outcome.{Outcome, compiled, refused, number_of, length_of, output_of}
 use Rattle.resolver.specs.Walk.{count_of}
-use Rattle.action_writer.specs.declared.Written.{Written}
-use Rattle.action_writer.specs.declared.Written.TheVariants as written
 use Rattle.action_writer.specs.Bodies.{body_at}
 
--- the number of the answer, 0 for none, and the length
-abbrev pub number_is : Written → ℕ
-number_is (written.Bytes n) = 0
-number_is (written.Refused n) = n
-
-abbrev pub length_is : Written → ℕ
-length_is (written.Bytes n) = n
-length_is (written.Refused n) = 0
+-- how many bytes were written, 0 after a refusal
+abbrev pub length_is : Result ℕ Refusal → ℕ
+length_is (Ok n) = n
+length_is (Err e) = 0
 
 -- the answer and the whole output are those of an outcome
-pub record Leaves (o : Outcome) (room : ℕ) (r : Written) (output : List ℕ) : Type 0 where
-  pub number : number_is r ≡ number_of o
+pub record Leaves (o : Outcome) (room : ℕ) (r : Result ℕ Refusal) (output : List ℕ) : Type 0 where
+  pub number : refusal_of r ≡ number_of o
   pub count : length_is r ≡ length_of o
   pub whole : output ≡ output_of o room
 

@@ -3,6 +3,7 @@ use Rattle.std.specs.Prelude.{ℕ, ◌+◌, ◌-◌, ◌*◌, ◌%◌, ◌≤◌
 use Rattle.pcode.specs.Pcode.{Item, plain, push, branch, define, action, mark}
 use Rattle.script_records.specs.declared.layout.Layout.{Layout}
 use Rattle.action_format.specs.Bytes.{Bytes}
+use Rattle.byte_writer.specs.declared.Writer.{Writer}
 use Rattle.byte_writer.specs.Written.{written_at}
 use Rattle.byte_writer.specs.Data.{frame, framed, value_data, action_data, action_bytes}
 use Rattle.byte_writer.specs.Header.{function_data, function_bytes, IsFunction}
@@ -14,6 +15,11 @@ pub record Joined (o : List ℕ) (begun at : ℕ) (v : Bytes) (next : ℕ) (o' :
   pub after : next ≡ at + length v
   pub output : o' ≡ written_at (written_at o at v) begun (frame 0x96 (next - (begun + 3)))
   pub long : length o' ≡ length o
+
+pub record Joins (w : Writer) (begun : ℕ) (v : Bytes) (w' : Writer) : Type 0 where
+  pub same_script : w'.script ≡ w.script
+  pub same_output : w'.output.ghost_name ≡ w.output.ghost_name
+  pub joined : Joined w.output.now begun w.at v w'.at w'.output.now
 
 pub data Sort : Type 0 where
   a_mark a-function an-action a-first-value a-later-value : Sort

@@ -1,10 +1,9 @@
 #![tactic(auto)]
 
 // The action bytes of compiled lists.
-pub mod list;
+mod list;
 
 ghost use Rattle.std.specs.Prelude.{◌≡◌, length};
-ghost use Rattle.script_records.specs.Layout.{layout_of};
 ghost use Rattle.lowering.specs.Builder.{limits01};
 ghost use Rattle.list_slice.specs.Words.{zeros_of};
 ghost use Rattle.definition.specs.Compile.{lists_of, if_lowered};
@@ -13,89 +12,48 @@ ghost use Rattle.action_writer.specs.Steps.{Writable};
 ghost use Rattle.action_writer.specs.Outcomes.{Leaves, Measured, top_outcome};
 
 use crate::list::write_list;
-use byte_writer::bytes::put_byte;
-use resolver::{count_lists, resolve};
-use script_records::layout::{Layout, layout_of};
+use byte_writer::Writer;
+use refusal::Refusal;
+use resolver::lists::Lists;
+use resolver::passes::Tables;
+use resolver::resolve;
 use zeros::clear_bytes;
 
-// How many bytes were written, or the refusal's number.
-#[derive(Clone, Copy)]
-pub enum Written {
-    Bytes(usize),
-    Refused(u32),
-}
+// The code of End, which the top list ends in.
+const END: u8 = 0;
 
-fn wide(x: u32) -> usize
-    ensures { result ≡ x }
-{
-    x as usize
-}
-
-// The top list's body and End, or refusal 12.
-fn write_top(
-    file: &[u8],
-    l: Layout,
-    list: &[u32],
-    sizes: &[u32; 1024],
-    offsets: &[u32; 4096],
-    output: &mut [u8],
-) -> Written
-    requires writable { Writable file.now l list.now sizes.now offsets.now }
-    requires measured { Measured file.now list.now sizes.now }
+// The top list's body and End.
+fn write_top(lists: &Lists, tables: &Tables, output: &mut [u8]) -> Result<usize, Refusal>
+    requires writable { let s = lists.now.script in Writable s.bytes.now s.layout lists.now.list.now tables.now.sizes tables.now.offsets }
+    requires measured { Measured lists.now.script.bytes.now lists.now.list.now tables.now.sizes }
     requires output_value { output.old ≡ zeros_of (length output.old) }
-    ensures { Leaves (top_outcome file.now list.now (length output.old)) (length output.old) result output.new }
+    ensures { Leaves (top_outcome lists.now.script.bytes.now lists.now.list.now (length output.old)) (length output.old) result output.new }
 {
-    let n = count_lists(list);
-    let size = wide(sizes[0]);
+    let size = tables.sizes[0] as usize;
     if output.len() <= size {
-        return Written::Refused(12);
+        return Err(Refusal::ShortOutput);
     }
-    let end = write_list(file, l, list, sizes, offsets, n - 1, output, 0);
-    let length = put_byte(output, end, 0);
-    Written::Bytes(length)
+    let mut w = Writer {
+        script: lists.script,
+        output,
+        at: 0,
+    };
+    write_list(lists, tables, lists.count - 1, &mut w);
+    w.byte(END);
+    Ok(w.at)
 }
 
-// The refusals 9, 10 and 11 in their order, or the bytes.
-fn write_resolved(
-    file: &[u8],
-    l: Layout,
-    list: &[u32],
-    sizes: &mut [u32; 1024],
-    offsets: &mut [u32; 4096],
-    output: &mut [u8],
-) -> Written
-    requires lowered { Lowered file.now list.now }
-    requires l_value { l ≡ layout_of file.now }
-    requires output_value { output.old ≡ zeros_of (length output.old) }
-    requires sizes_len { length sizes.old ≡ 1024 }
-    requires offsets_len { length offsets.old ≡ 4096 }
-    ensures { Leaves (if_lowered (lists_of limits01 file.now) (length output.old)) (length output.old) result output.new }
-{
-    let answer = resolve(file, l, list, sizes, offsets);
-    let refusal = answer.refusal;
-    if refusal != 0 {
-        return Written::Refused(refusal);
-    }
-    write_top(file, l, list, sizes, offsets, output)
-}
-
-fn write_with_tables(file: &[u8], l: Layout, list: &[u32], output: &mut [u8]) -> Written
-    requires lowered { Lowered file.now list.now }
-    requires l_value { l ≡ layout_of file.now }
-    requires output_value { output.old ≡ zeros_of (length output.old) }
-    ensures { Leaves (if_lowered (lists_of limits01 file.now) (length output.old)) (length output.old) result output.new }
-{
-    let mut sizes = [0u32; 1024];
-    let mut offsets = [0u32; 4096];
-    write_resolved(file, l, list, &mut sizes, &mut offsets, output)
-}
-
-// The action bytes of the lists that the list slice holds for a script file, then zeros; or the refusal, and zeros.
-pub fn write(file: &[u8], list: &[u32], output: &mut [u8]) -> Written
+// The action bytes of the lists that the list slice holds for a script file, then zeros; after a refusal only zeros. How many bytes were written.
+pub fn write(file: &[u8], list: &[u32], output: &mut [u8]) -> Result<usize, Refusal>
     requires { Lowered file.now list.now }
     ensures { Leaves (if_lowered (lists_of limits01 file.now) (length output.old)) (length output.old) result output.new }
 {
     clear_bytes(output);
-    let l = layout_of(file);
-    write_with_tables(file, l, list, output)
+    let lists = Lists::new(file, list);
+    let mut tables = Tables {
+        sizes: [0; 1024],
+        offsets: [0; 4096],
+    };
+    resolve(&lists, &mut tables)?;
+    write_top(&lists, &tables, output)
 }

@@ -1,13 +1,15 @@
--- The loops that copy the words of the list slice, and that clear what stands behind them.
-use Prim.Native.Nat.{ℕ, ◌+◌, ◌≤◌, ◌<◌}
-use mathlib.Core.Path.{◌≡◌, refl, ap, ◌∙◌}
-use mathlib.Core.List.{List}
+-- The words of the list slice as they are left: copied from others, or with those behind them cleared.
+use Prim.Native.Nat.{ℕ, ◌+◌, ◌-◌, ◌≤◌}
+use mathlib.Core.Path.{◌≡◌, refl, sym, ap, ◌∙◌}
+use mathlib.Core.List.{List, ◌++◌}
 use mathlib.Core.Bool.{Bool, true, false}
 use native.Mathlib.Omega.{arith}
-use lib.Dec.{eqb, ltb}
-use lib.ListN.{length, get_or, set, replicate, length-set, get_or-eq_default}
-use lib.Seq.{get_or-set_same, get_or-set_other}
-use borrow.Author.Tests.{eqb-true, eqb-false, ltb-true, ltb-false}
+use lib.Dec.{ltb}
+use lib.ListN.{length, get_or, take, drop, replicate, length-append, length-take, length-drop, length-replicate, get_or-append, get_or-replicate, get_or-eq_default}
+use lib.Seq.{get_or-take, get_or-drop}
+use borrow.Author.Tests.{ltb-true, ltb-false}
+use borrow.Rule.Slice.PartMut.{put_mid}
+use Rattle.std.proofs.lemmas.List.{get_or-append_right}
 use Rattle.list_slice.specs.Words.{zeros_of}
 use Rattle.builder.specs.Places.{Copied}
 use Rattle.as2_codegen.proofs.First.{zeros_at}
@@ -16,60 +18,62 @@ pub all_zeros : (n : ℕ) → replicate n 0 ≡ zeros_of n
 unfolding zeros_of
 all_zeros n = refl
 
--- the first i words are copied, and the others are as they were
-pub record Copying (w v₀ v : List ℕ) (i : ℕ) : Type 0 where
-  pub within : i ≤ 16384
-  pub long : length v ≡ length v₀
-  pub same : (j : ℕ) → j < i → get_or v j 0 ≡ get_or w j 0
-  pub rest : (j : ℕ) → i ≤ j → get_or v j 0 ≡ get_or v₀ j 0
+pub first_long : (w : List ℕ) → length w ≡ 20480 → 16384 ≡ length (take 16384 w)
+first_long w e = simp length-take (omega arith)
 
-pub copying_none : {w v : List ℕ} → Copying w v v 0
-copying_none = record { within = omega arith; long = refl; same = λ j h. absurd (omega arith); rest = λ j h. refl }
+pub both_long : (w v : List ℕ) → length w ≡ 20480 → 16384 ≤ length v → length (take 16384 v) ≡ length (take 16384 w)
+both_long w v e h = simp length-take (omega arith)
 
-pub copying_more : {w v₀ v : List ℕ} {i : ℕ} → 16384 ≤ length v₀ → Copying w v₀ v i → i < 16384 → Copying w v₀ (set v i (get_or w i 0)) (i + 1)
-copying_more {w} {v₀} {v} {i} room c h = record {
-  within = omega arith;
-  long = length-set v i (get_or w i 0) ∙ c.long;
-  same = λ j k. at j k (eqb j i) refl;
-  rest = λ j k. get_or-set_other v i j (get_or w i 0) 0 (λ e. omega arith) ∙ c.rest j (omega arith);
-}
-  where
-    at : (j : ℕ) → j < i + 1 → (b : Bool) → eqb j i ≡ b → get_or (set v i (get_or w i 0)) j 0 ≡ get_or w j 0
-    at j k true e = rw (eqb-true j i e) (get_or-set_same v i (get_or w i 0) 0 (omega (arith, c.long)))
-    at j k false e = let o = eqb-false j i e in get_or-set_other v i j (get_or w i 0) 0 o ∙ c.same j (omega arith)
+-- the first words, in place of those of a slice of zeros
+module _ (w v : List ℕ) (long : length w ≡ 20480) (room : 16384 ≤ length v) (zeros : v ≡ zeros_of (length v)) {x : List ℕ} (e : x ≡ take 16384 w) where
+  x_long : length x ≡ 16384
+  x_long = ap length e ∙ sym (first_long w long)
 
-pub copying_all : {w v₀ v : List ℕ} {i : ℕ} → 16384 ≤ length v₀ → v₀ ≡ zeros_of (length v₀) → Copying w v₀ v i → 16384 ≤ i → Copied w v
-copying_all {w} {v₀} {v} {i} room zeros c h = record {
-  room = omega (arith, c.long);
-  same = λ j k. c.same j (omega arith);
-  rest = λ j k. c.rest j (omega (arith, c.within)) ∙ ap (λ (x : List ℕ). get_or x j 0) zeros ∙ zeros_at (length v₀) j;
-}
+  pub copied : Copied w (x ++ drop 16384 v)
+  copied = record {
+    room = simp length-append (omega (arith, x_long));
+    same = λ j h. get_or-append x (drop 16384 v) 0 j (rw x_long h) ∙ rw e (get_or-take 16384 w j 0 h);
+    rest = λ j h.
+        let s : 16384 + (j - 16384) ≡ j = omega arith in
+        rw (get_or-append_right x (drop 16384 v) 16384 j 0 x_long h, get_or-drop 16384 v (j - 16384) 0, s) (ap (λ (y : List ℕ). get_or y j 0) zeros ∙ zeros_at (length v) j);
+  }
 
--- the words behind those of the list slice are zeros up to i
-pub record Clearing (w v : List ℕ) (i : ℕ) : Type 0 where
-  pub from : 16384 ≤ i
-  pub long : length v ≡ length w
-  pub same : (j : ℕ) → j < 16384 → get_or v j 0 ≡ get_or w j 0
-  pub zeros : (j : ℕ) → 16384 ≤ j → j < i → get_or v j 0 ≡ 0
+  pub copied_long : length (x ++ drop 16384 v) ≡ length v
+  copied_long = simp (length-append, length-drop) (omega (arith, x_long))
 
-pub clearing_none : {w : List ℕ} → Clearing w w 16384
-clearing_none = record { from = omega arith; long = refl; same = λ j h. refl; zeros = λ j h k. absurd (omega arith) }
+-- the words behind the slice's are zeros
+module _ (w : List ℕ) (room : 16384 ≤ length w) {ys : List ℕ} (e : ys ≡ replicate (length (take (length w - 16384) (drop 16384 w))) 0) where
+  abbrev behind : ℕ
+  behind = length w - 16384
 
-pub clearing_more : {w v : List ℕ} {i : ℕ} → Clearing w v i → i < length v → Clearing w (set v i 0) (i + 1)
-clearing_more {w} {v} {i} c h = record {
-  from = omega (arith, c.from);
-  long = length-set v i 0 ∙ c.long;
-  same = λ j k. get_or-set_other v i j 0 0 (λ e. omega (arith, c.from)) ∙ c.same j k;
-  zeros = λ j k l. at j k l (eqb j i) refl;
-}
-  where
-    at : (j : ℕ) → 16384 ≤ j → j < i + 1 → (b : Bool) → eqb j i ≡ b → get_or (set v i 0) j 0 ≡ 0
-    at j k l true e = rw (eqb-true j i e) (get_or-set_same v i 0 0 h)
-    at j k l false e = let o = eqb-false j i e in get_or-set_other v i j 0 0 o ∙ c.zeros j k (omega arith)
+  part_long : length (take behind (drop 16384 w)) ≡ behind
+  part_long = simp (length-take, length-drop) (omega arith)
 
-pub clearing_all : {w v : List ℕ} {i : ℕ} → 16384 ≤ length w → Clearing w v i → length v ≤ i → Copied w v
-clearing_all {w} {v} {i} room c h = record { room = omega (arith, c.long); same = c.same; rest = λ j k. at j k (ltb j i) refl }
-  where
-    at : (j : ℕ) → 16384 ≤ j → (b : Bool) → ltb j i ≡ b → get_or v j 0 ≡ 0
-    at j k true e = c.zeros j k (ltb-true j i e)
-    at j k false e = let o = ltb-false j i e in get_or-eq_default v 0 (omega arith)
+  slice_long : length (take 16384 w) ≡ 16384
+  slice_long = simp length-take (omega arith)
+
+  abbrev rest : List ℕ
+  rest = replicate behind 0 ++ drop behind (drop 16384 w)
+
+  all_long : length (take 16384 w ++ rest) ≡ length w
+  all_long = simp (length-append, length-take, length-drop, length-replicate) (omega arith)
+
+  zero_at_lem : (j : ℕ) → 16384 ≤ j → (b : Bool) → ltb j (length w) ≡ b → get_or (take 16384 w ++ rest) j 0 ≡ 0
+  zero_at_lem j h true t =
+      let l = ltb-true j (length w) t in
+      rw (
+        get_or-append_right (take 16384 w) rest 16384 j 0 slice_long h,
+        get_or-append (replicate behind 0) (drop behind (drop 16384 w)) 0 (j - 16384) (rw (length-replicate {A = ℕ} behind 0) (omega arith)),
+        get_or-replicate {A = ℕ} behind (j - 16384) 0 0 (omega arith),
+      )
+  zero_at_lem j h false t = get_or-eq_default (take 16384 w ++ rest) 0 (omega (arith, ltb-false j (length w) t, all_long))
+
+  pub cleared : Copied w (put_mid 16384 (length w - 16384) w ys)
+  cleared = rw (e, part_long) (record {
+    room = omega (arith, all_long);
+    same = λ j h. get_or-append (take 16384 w) rest 0 j (rw slice_long h) ∙ get_or-take 16384 w j 0 h;
+    rest = λ j h. zero_at_lem j h (ltb j (length w)) refl;
+  })
+
+  pub cleared_long : length (put_mid 16384 (length w - 16384) w ys) ≡ length w
+  cleared_long = rw (e, part_long) all_long

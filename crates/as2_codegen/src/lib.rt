@@ -2,31 +2,38 @@
 
 // A script file is lowered (`as2_codegen.rs`, `script_to_actions`): checked first, then its statements generated into the list slice.
 ghost use Rattle.std.specs.Prelude.{◌≡◌, List, ℕ, ◌≤◌, length};
-ghost use Rattle.script_records.specs.Layout.{layout_of};
+ghost use Rattle.refusal.specs.Refusal.{number_of};
 ghost use Rattle.script.specs.Rules.{check_of};
 ghost use Rattle.lowering.specs.Builder.{limits01};
 ghost use Rattle.lowering.specs.Statement.{no_loop, gen_statements};
 ghost use Rattle.list_slice.specs.Words.{zeros_of};
 ghost use Rattle.codegen_state.specs.Does.{Does};
-ghost use Rattle.tree.specs.Within.{meanings_at};
-ghost use Rattle.builder.specs.Places.{Copied};
+ghost use Rattle.tree.specs.Handle.{file_of, meanings_of};
+ghost use Rattle.statement.specs.Walk.{Walk};
+ghost use Rattle.as2_codegen.specs.Begin.{Begun, Statements};
 ghost use Rattle.as2_codegen.specs.Lowering.{Lowers, Generated};
-ghost use Rattle.as2_codegen.specs.Begin.{Begun, statements_part, Generating};
 
 use builder::entries::put;
 use builder::finish::into_actions;
 use codegen_state::CodeBuilder;
+use refusal::Refusal;
 use rows::no_loop;
-use script_records::layout::{Layout, layout_of};
+use script_records::layout::{ScriptFile, layout_of};
 use script_records::part::Part;
 use statement::gen_statements;
+use tree::Trees;
 use zeros::clear_words;
 
-// The lists stand in the list slice, or the refusal.
+// Words of the list slice, and with the pool's index behind them.
+const SLICE: usize = 16384;
+
+const WORDS: usize = 20480;
+
+// The statements of an accepted file.
 #[derive(Clone, Copy)]
-pub enum Lowered {
-    Lists,
-    Refused(u32),
+struct Accepted<'a> {
+    statements: Trees<'a>,
+    ghost whole: { Statements statements },
 }
 
 // The pool's place is kept, as action 1; `Constants::empty` sets the pool's total to 2.
@@ -54,222 +61,110 @@ fn begin(list: &mut [u32]) -> CodeBuilder
 }
 
 // The records between an accepted file's first and its root: the trees of its statements.
-fn statements_of(l: Layout) -> Part
-    ensures { result ≡ statements_part l }
+fn statements_of(file: &[u8]) -> Accepted
+    requires { check_of file.now ≡ 0 }
+    ensures { file_of result.statements ≡ file.now }
 {
-    let count = l.count as usize;
-    if count == 0 {
-        return Part { end: 0, n: 0 };
-    }
-    Part {
-        end: count - 1,
-        n: count - 1,
+    let layout = layout_of(file);
+    let n = (layout.count as usize).saturating_sub(1);
+    Accepted {
+        statements: Trees {
+            script: ScriptFile {
+                bytes: file,
+                layout,
+            },
+            part: Part { end: n, n },
+        },
     }
 }
 
 // Few records need little scratch, which takes less time to clear.
-fn with_tiny(
-    file: &[u8],
-    l: Layout,
-    p: Part,
-    b: CodeBuilder,
-    list: &mut [u32],
-    scratch: &mut [usize; 256],
-) -> CodeBuilder
-    requires generating { Generating file.now l p b list.old }
-    requires n_bound { p.n ≤ 256 }
-    ensures { Does file.now (gen_statements no_loop (meanings_at file.now p)) b list.old tt result list.new }
+fn with_scratch<const N: usize>(t: &Trees, b: CodeBuilder, list: &mut [u32]) -> CodeBuilder
+    requires walk { Walk t.now b list.old N }
+    requires n_bound { N ≤ 65536 }
+    ensures { Does (file_of t.now) (gen_statements no_loop (meanings_of t.now)) b list.old tt result list.new }
 {
-    gen_statements(file, l, p, b, list, scratch, no_loop())
+    let mut scratch = [0usize; N];
+    gen_statements(t, b, list, &mut scratch, no_loop())
 }
 
-fn with_small(
-    file: &[u8],
-    l: Layout,
-    p: Part,
-    b: CodeBuilder,
-    list: &mut [u32],
-    scratch: &mut [usize; 4096],
-) -> CodeBuilder
-    requires generating { Generating file.now l p b list.old }
-    requires n_bound { p.n ≤ 4096 }
-    ensures { Does file.now (gen_statements no_loop (meanings_at file.now p)) b list.old tt result list.new }
+fn generate_actions(t: &Trees, b: CodeBuilder, list: &mut [u32]) -> CodeBuilder
+    requires { Walk t.now b list.old 65536 }
+    ensures { Does (file_of t.now) (gen_statements no_loop (meanings_of t.now)) b list.old tt result list.new }
 {
-    gen_statements(file, l, p, b, list, scratch, no_loop())
-}
-
-fn with_large(
-    file: &[u8],
-    l: Layout,
-    p: Part,
-    b: CodeBuilder,
-    list: &mut [u32],
-    scratch: &mut [usize; 65536],
-) -> CodeBuilder
-    requires { Generating file.now l p b list.old }
-    ensures { Does file.now (gen_statements no_loop (meanings_at file.now p)) b list.old tt result list.new }
-{
-    gen_statements(file, l, p, b, list, scratch, no_loop())
-}
-
-fn tiny(file: &[u8], l: Layout, p: Part, b: CodeBuilder, list: &mut [u32]) -> CodeBuilder
-    requires generating { Generating file.now l p b list.old }
-    requires n_bound { p.n ≤ 256 }
-    ensures { Does file.now (gen_statements no_loop (meanings_at file.now p)) b list.old tt result list.new }
-{
-    let mut scratch = [0usize; 256];
-    with_tiny(file, l, p, b, list, &mut scratch)
-}
-
-fn small(file: &[u8], l: Layout, p: Part, b: CodeBuilder, list: &mut [u32]) -> CodeBuilder
-    requires generating { Generating file.now l p b list.old }
-    requires n_bound { p.n ≤ 4096 }
-    ensures { Does file.now (gen_statements no_loop (meanings_at file.now p)) b list.old tt result list.new }
-{
-    let mut scratch = [0usize; 4096];
-    with_small(file, l, p, b, list, &mut scratch)
-}
-
-fn large(file: &[u8], l: Layout, p: Part, b: CodeBuilder, list: &mut [u32]) -> CodeBuilder
-    requires { Generating file.now l p b list.old }
-    ensures { Does file.now (gen_statements no_loop (meanings_at file.now p)) b list.old tt result list.new }
-{
-    let mut scratch = [0usize; 65536];
-    with_large(file, l, p, b, list, &mut scratch)
-}
-
-fn generate_actions(
-    file: &[u8],
-    l: Layout,
-    p: Part,
-    b: CodeBuilder,
-    list: &mut [u32],
-) -> CodeBuilder
-    requires { Generating file.now l p b list.old }
-    ensures { Does file.now (gen_statements no_loop (meanings_at file.now p)) b list.old tt result list.new }
-{
-    if 4096 < p.n {
-        return large(file, l, p, b, list);
+    if 4096 < t.part.n {
+        return with_scratch::<65536>(t, b, list);
     }
-    if 256 < p.n {
-        return small(file, l, p, b, list);
+    if 256 < t.part.n {
+        return with_scratch::<4096>(t, b, list);
     }
-    tiny(file, l, p, b, list)
+    with_scratch::<256>(t, b, list)
 }
 
-// The statements are generated into words of zeros, which take in the pool's index behind those of the list slice: 0, or the refusal.
-fn generate(file: &[u8], l: Layout, p: Part, words: &mut [u32]) -> u32
-    requires file_value { check_of file.now ≡ 0 }
-    requires l_value { (l ≡ layout_of file.now) × (p ≡ statements_part l) }
-    requires in_bounds { (20480 ≤ length words.old) × (words.old ≡ zeros_of (length words.old)) }
-    ensures { Generated file.now result words.new }
+fn refusal(number: u32) -> Refusal
+    requires { (5 ≤ number) × (number ≤ 8) }
+    ensures { number_of result ≡ number }
+{
+    match number {
+        5 => Refusal::NotAssignable,
+        6 => Refusal::SecondDefault,
+        7 => Refusal::Negation,
+        _ => Refusal::TooMany,
+    }
+}
+
+// The statements are generated into words of zeros, which take in the pool's index behind those of the list slice.
+fn generate(accepted: &Accepted, words: &mut [u32]) -> Result<(), Refusal>
+    requires in_bounds { 20480 ≤ length words.old }
+    requires words_value { words.old ≡ zeros_of (length words.old) }
+    ensures { Generated (file_of accepted.now.statements) result words.new }
 {
     let b = begin(words);
-    let done = generate_actions(file, l, p, b, words);
+    let done = generate_actions(&accepted.statements, b, words);
     if done.refused != 0 {
-        return done.refused;
+        return Err(refusal(done.refused));
     }
     into_actions(words, done);
-    0
-}
-
-// The words of the list slice, without the pool's index behind them.
-fn copy(work: &[u32; 20480], list: &mut [u32])
-    requires in_bounds { 16384 ≤ length list.old }
-    requires list_value { list.old ≡ zeros_of (length list.old) }
-    ensures { Copied work.now list.new }
-{
-    let mut i: usize = 0;
-    while i < 16384 {
-        list[i] = work[i];
-        i += 1;
-    }
-}
-
-// The same where they stand.
-fn clear_index(list: &mut [u32])
-    requires { 16384 ≤ length list.old }
-    ensures { Copied list.old list.new }
-{
-    let mut i: usize = 16384;
-    while i < list.len() {
-        list[i] = 0;
-        i += 1;
-    }
+    Ok(())
 }
 
 // In words beside the list slice. After a refusal the slice stays as it is.
-fn generate_beside(
-    file: &[u8],
-    l: Layout,
-    p: Part,
-    work: &mut [u32; 20480],
-    list: &mut [u32],
-) -> Lowered
-    requires file_value { check_of file.now ≡ 0 }
-    requires l_value { (l ≡ layout_of file.now) × (p ≡ statements_part l) }
-    requires work_value { work.old ≡ zeros_of 20480 }
-    requires in_bounds { (16384 ≤ length list.old) × (list.old ≡ zeros_of (length list.old)) }
-    ensures { Lowers limits01 file.now (length list.old) result list.new }
+fn lower_beside(accepted: &Accepted, list: &mut [u32]) -> Result<(), Refusal>
+    requires in_bounds { 16384 ≤ length list.old }
+    requires list_value { list.old ≡ zeros_of (length list.old) }
+    ensures { Lowers limits01 (file_of accepted.now.statements) (length list.old) result list.new }
 {
-    let number = generate(file, l, p, work);
-    if number != 0 {
-        return Lowered::Refused(number);
-    }
-    copy(work, list);
-    Lowered::Lists
+    let mut work = [0u32; WORDS];
+    generate(accepted, &mut work)?;
+    list[..SLICE].copy_from_slice(&work[..SLICE]);
+    Ok(())
 }
 
-// In the list slice itself.
-fn generate_in_place(file: &[u8], l: Layout, p: Part, list: &mut [u32]) -> Lowered
-    requires file_value { check_of file.now ≡ 0 }
-    requires l_value { (l ≡ layout_of file.now) × (p ≡ statements_part l) }
-    requires in_bounds { (20480 ≤ length list.old) × (list.old ≡ zeros_of (length list.old)) }
-    ensures { Lowers limits01 file.now (length list.old) result list.new }
+// In the list slice itself, or beside it where the words that lowering needs are not lent.
+fn lower(accepted: &Accepted, list: &mut [u32]) -> Result<(), Refusal>
+    requires in_bounds { 16384 ≤ length list.old }
+    requires list_value { list.old ≡ zeros_of (length list.old) }
+    ensures { Lowers limits01 (file_of accepted.now.statements) (length list.old) result list.new }
 {
-    let number = generate(file, l, p, list);
-    if number != 0 {
+    if list.len() < WORDS {
+        return lower_beside(accepted, list);
+    }
+    if let Err(refusal) = generate(accepted, list) {
         clear_words(list);
-        return Lowered::Refused(number);
+        return Err(refusal);
     }
-    clear_index(list);
-    Lowered::Lists
-}
-
-fn with_words(file: &[u8], l: Layout, p: Part, list: &mut [u32]) -> Lowered
-    requires file_value { check_of file.now ≡ 0 }
-    requires l_value { (l ≡ layout_of file.now) × (p ≡ statements_part l) }
-    requires in_bounds { (16384 ≤ length list.old) × (list.old ≡ zeros_of (length list.old)) }
-    ensures { Lowers limits01 file.now (length list.old) result list.new }
-{
-    let mut work = [0u32; 20480];
-    generate_beside(file, l, p, &mut work, list)
-}
-
-// An accepted file, and a slice of zeros. Lowering needs more words than the list slice must have; where they are not lent, it works beside the slice.
-fn lower(file: &[u8], list: &mut [u32]) -> Lowered
-    requires file_value { check_of file.now ≡ 0 }
-    requires in_bounds { (16384 ≤ length list.old) × (list.old ≡ zeros_of (length list.old)) }
-    ensures { Lowers limits01 file.now (length list.old) result list.new }
-{
-    let l = layout_of(file);
-    let p = statements_of(l);
-    if list.len() < 20480 {
-        return with_words(file, l, p, list);
-    }
-    generate_in_place(file, l, p, list)
+    list[SLICE..].fill(0);
+    Ok(())
 }
 
 // A file of any content: its lists, or the one refusal among 13, 4, 1, 2, 3, 4, 5, 6, 7, 8, after which the slice has only zeros.
-pub fn script_to_actions(file: &[u8], list: &mut [u32]) -> Lowered
+pub fn script_to_actions(file: &[u8], list: &mut [u32]) -> Result<(), Refusal>
     ensures { Lowers limits01 file.now (length list.old) result list.new }
 {
     clear_words(list);
-    if list.len() < 16384 {
-        return Lowered::Refused(13);
+    if list.len() < SLICE {
+        return Err(Refusal::ShortList);
     }
-    if let Err(refusal) = script::check(file) {
-        return Lowered::Refused(refusal.number());
-    }
-    lower(file, list)
+    script::check(file)?;
+    lower(&statements_of(file), list)
 }

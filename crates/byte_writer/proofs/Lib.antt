@@ -1,9 +1,10 @@
 pub mod Writes
 pub mod Loops
 pub mod Sizes
-pub mod Pool
 pub mod Frames
+pub mod Pool
 pub mod Params
 pub mod ParamLoops
+pub mod Marks
 pub mod HeaderParts
 pub mod Functions

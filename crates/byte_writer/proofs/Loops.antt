@@ -1,12 +1,9 @@
--- The loops that write a number and a part of the file: what is left of it, written from here on, gives the whole.
-use Prim.Native.Nat.{ℕ, zero, suc, ◌+◌, ◌-◌, ◌≤◌, ◌<◌, ◌/◌, ◌%◌}
+-- The loops that write a number and a pool: what is left of it, written from here on, gives the whole.
+use Prim.Native.Nat.{ℕ, zero, suc, ◌+◌, ◌-◌, ◌<◌, ◌/◌, ◌%◌}
 use mathlib.Core.Path.{◌≡◌, refl, ap, ◌∙◌}
 use mathlib.Core.List.{List, [], ◌∷◌, ◌++◌}
 use native.Mathlib.Omega.{arith}
-use native.Mathlib.Nat.{add-zero}
-use native.Mathlib.Numerals.{add-one}
-use lib.ListN.{length, get_or, set, drop, length-set, length-append, drop_of_length-le}
-use lib.Seq.{drop-cons}
+use lib.ListN.{length, set, length-set, length-append}
 use Rattle.action_format.specs.Bytes.{word}
 use Rattle.byte_writer.specs.Written.{written_at, Room, Wrote}
 use Rattle.byte_writer.proofs.Writes.{written_append}
@@ -25,7 +22,7 @@ pub record Left (o₀ : List ℕ) (at : ℕ) (bs o : List ℕ) (next : ℕ) (res
 pub left_start : (o : List ℕ) (at : ℕ) (bs : List ℕ) → Left o at bs o at bs
 left_start o at bs = record { same = refl; long = refl; place = refl }
 
-pub left_next : {o₀ bs o : List ℕ} {at next b : ℕ} {rest : List ℕ} → Left o₀ at bs o next (b ∷ rest) → Left o₀ at bs (set o next b) (next + 1) rest
+left_next : {o₀ bs o : List ℕ} {at next b : ℕ} {rest : List ℕ} → Left o₀ at bs o next (b ∷ rest) → Left o₀ at bs (set o next b) (next + 1) rest
 unfolding written_at
 left_next {o = o} {next = next} {b = b} i = record { same = i.same; long = length-set o next b ∙ i.long; place = omega (arith, i.place) }
 
@@ -43,35 +40,16 @@ left_write {o = o} {next = next} {x = x} {rest = rest} i d = record {
 pub left_room : {o₀ bs o : List ℕ} {at next : ℕ} (x rest : List ℕ) → Left o₀ at bs o next (x ++ rest) → Room o₀ at bs → Room o next x
 left_room x rest i h = omega (arith, i.place, i.long, length-append x rest)
 
--- a number: from byte next on, up to end
-pub number_start : (o : List ℕ) (at k n : ℕ) → Left o at (word k n) o at (word (at + k - at) n)
-number_start o at k n = let e : at + k - at ≡ k = omega arith in rw e (left_start o at (word k n))
+-- a number of k bytes, the first i of which are written
 
-module _ (next end rest : ℕ) where
-  more : next < end → word (end - next) rest ≡ rest % 256 ∷ word (end - (next + 1)) (rest / 256)
+module _ {o₀ bs o : List ℕ} {at k : ℕ} (i rest : ℕ) (v : Left o₀ at bs o (at + i) (word (k - i) rest)) where
+  pub number_next : i < k → Left o₀ at bs (set o (at + i) (rest % 256)) (at + (i + 1)) (word (k - (i + 1)) (rest / 256))
   unfolding word
-  more q = let e : end - next ≡ suc (end - (next + 1)) = omega arith in rw e
+  number_next h =
+      let e : k - i ≡ suc (k - (i + 1)) = omega arith in
+      let f : at + (i + 1) ≡ (at + i) + 1 = omega arith in
+      rw f (left_next (rw e at v))
 
-  none : end ≤ next → word (end - next) rest ≡ []
-  unfolding word
-  none q = let e : end - next ≡ 0 = omega arith in rw e
-
-  module _ {o₀ bs o : List ℕ} {at : ℕ} (i : Left o₀ at bs o next (word (end - next) rest)) where
-    pub number_next : next < end → Left o₀ at bs (set o next (rest % 256)) (next + 1) (word (end - (next + 1)) (rest / 256))
-    number_next q = left_next (rw (more q) at i)
-
-    pub number_done : end ≤ next → Wrote o₀ at bs next o
-    number_done q = left_done (rw (none q) at i)
-
--- a part: from its byte i on
-pub part_start : (o : List ℕ) (at : ℕ) (part : List ℕ) → Left o at part o (at + 0) part
-part_start o at part = rw (add-zero at) (left_start o at part)
-
-module _ {o₀ o part : List ℕ} (at i : ℕ) (inv : Left o₀ at part o (at + i) (drop i part)) where
-  pub part_next : i < length part → Left o₀ at part (set o (at + i) (get_or part i 0)) (at + (i + 1)) (drop (i + 1) part)
-  part_next h =
-      let e : at + (i + 1) ≡ (at + i) + 1 = omega arith in
-      rw (e, add-one i) (left_next (rw (drop-cons part i 0 h) at inv))
-
-  pub part_done : length part ≤ i → Wrote o₀ at part (at + i) o
-  part_done h = left_done (rw (drop_of_length-le part h) at inv)
+pub number_done : {o₀ bs o : List ℕ} {at : ℕ} (k rest : ℕ) → Left o₀ at bs o (at + k) (word (k - k) rest) → Wrote o₀ at bs (at + k) o
+unfolding word
+number_done k rest v = let e : k - k ≡ 0 = omega arith in left_done (rw e at v)

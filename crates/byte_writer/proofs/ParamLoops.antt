@@ -30,7 +30,7 @@ module _ (F : List ℕ) (l : Layout) (wide : Bool) where
   unfolding params_data params_of
   params_none p h = rw (trees_none F p h)
 
-  module _ {left : Part} (w : Within F l left) (h : 0 < left.n) {r : Node} (e : r ≡ node_of F l left) where
+  module _ {left : Part} (w : Within F l left) (h : 0 < left.n) {r : Node Part} (e : r ≡ node_of F l left) where
     node : IsNode F l left r
     node = is_node F l left w e
 
@@ -51,13 +51,10 @@ module _ (F : List ℕ) (l : Layout) (wide : Bool) where
     pub within : Within F l left
     pub whole : size + length (data_of left) ≡ length (data_of p)
 
-  pub sized_start : {p : Part} → Within F l p → Sized p 0 p
-  sized_start w = record { within = w; whole = omega arith }
-
   pub sized_done : {p : Part} {size : ℕ} {left : Part} → Sized p size left → left.n ≡ 0 → size ≡ length (data_of p)
   sized_done {left = left} i h = omega (arith, i.whole, ap length (params_none left h))
 
-  module _ {p : Part} {size : ℕ} {left : Part} (i : Sized p size left) (h : 0 < left.n) {r : Node} (e : r ≡ node_of F l left) {n : ℕ} (d : n ≡ length (param_data wide (param (rec_of F r.root)))) where
+  module _ {p : Part} {size : ℕ} {left : Part} (i : Sized p size left) (h : 0 < left.n) {r : Node Part} (e : r ≡ node_of F l left) {n : ℕ} (d : n ≡ length (param_data wide (param (rec_of F r.root)))) where
     sizes : length (data_of left) ≡ length (data_of r.before) + n
     sizes = ap length (params_more i.within h e) ∙ (length-append (data_of r.before) (last_data i.within h e) ∙ rw d)
 
@@ -85,7 +82,7 @@ module _ (F : List ℕ) (l : Layout) (wide : Bool) where
       let e : next ≡ at = omega (arith, b.place, ap length z) in
       rw (b.whole, z) (rw e at b.wrote)
 
-  module _ {p : Part} {o o' : List ℕ} {at end next : ℕ} {left : Part} (b : Backward p o at end o' next left) (h : 0 < left.n) {r : Node} (e : r ≡ node_of F l left)
+  module _ {p : Part} {o o' : List ℕ} {at end next : ℕ} {left : Part} (b : Backward p o at end o' next left) (h : 0 < left.n) {r : Node Part} (e : r ≡ node_of F l left)
       {n : ℕ} (d : n ≡ length (param_data wide (param (rec_of F r.root)))) where
     abbrev data' : Bytes
     data' = param_data wide (param (rec_of F r.root))

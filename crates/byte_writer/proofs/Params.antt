@@ -16,11 +16,12 @@ use Rattle.script.specs.Resolve.{resolved}
 use Rattle.script.specs.Rules.{max_bytes}
 use Rattle.lowering.specs.Meaning.{param}
 use Rattle.list_slice.specs.File.{no_string}
-use Rattle.action_format.specs.Bytes.{word, zero_ended}
+use Rattle.std.specs.Int.{from_bool}
+use Rattle.action_format.specs.Bytes.{Bytes, word, zero_ended}
 use Rattle.tree.specs.Trees.{rec_of}
-use Rattle.byte_writer.specs.declared.header.Param.{Param}
-use Rattle.byte_writer.specs.Data.{text_at}
-use Rattle.byte_writer.specs.Header.{param_of, param_data}
+use Rattle.slice_words.specs.declared.Param.{Param}
+use Rattle.slice_words.specs.References.{text_at, param_of}
+use Rattle.byte_writer.specs.Header.{param_data}
 use Rattle.byte_writer.proofs.Sizes.{ended_length}
 
 pick : {A : Type 0} (t : Bool) (x y : A) → (t ≡ true → y ≡ x) → cond t x y ≡ y
@@ -93,3 +94,19 @@ module _ (F : List ℕ) (l : Layout) (layout : l ≡ layout_of F) (short : lengt
       pub plain_data : param_data b (param (rec_of F root)) ≡ zero_ended (text_at F l p.name)
       unfolding param_data
       plain_data = rw (t, name_is)
+
+-- how many bytes a parameter takes
+pub size_of : (F : List ℕ) (l : Layout) → l ≡ layout_of F → length F ≤ max_bytes → (root : Record) (wide : Bool) {s : List ℕ} → s ≡ text_at F l (param_of root).name →
+    {n : ℕ} → n ≡ from_bool wide → length s + 1 + n ≡ length (param_data wide (param (rec_of F root)))
+size_of F l e h root true q z = omega (arith, wide_size F l e h root refl refl q, z)
+size_of F l e h root false q z = omega (arith, plain_size F l e h root refl refl q, z)
+
+-- a parameter's register and its name
+
+abbrev pub register_data : (wide : Bool) → Param → Bytes
+register_data wide p = cond wide (word 1 p.register) []
+
+pub param_parts : (F : List ℕ) (l : Layout) → l ≡ layout_of F → length F ≤ max_bytes → (root : Record) (wide : Bool) {p : Param} → p ≡ param_of root →
+    param_data wide (param (rec_of F root)) ≡ register_data wide p ++ zero_ended (text_at F l p.name)
+param_parts F l e h root true q = wide_data F l e h root q refl
+param_parts F l e h root false q = plain_data F l e h root q refl

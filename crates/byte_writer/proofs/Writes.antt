@@ -1,13 +1,18 @@
 -- Writes one after the other join, in either order.
-use Prim.Native.Nat.{ℕ, suc, ◌+◌, ◌<◌}
-use mathlib.Core.Path.{◌≡◌, refl, ◌∙◌}
+use Prim.Native.Nat.{ℕ, suc, ◌+◌, ◌-◌, ◌<◌}
+use mathlib.Core.Path.{◌≡◌, refl, sym, ◌∙◌, subst}
 use mathlib.Core.List.{List, [], ◌∷◌, ◌++◌, append_assoc}
 use native.Mathlib.Omega.{arith}
+use Rattle.std.proofs.lemmas.Grind.{common_steps}
 use native.Mathlib.Nat.{add-zero}
 use native.Mathlib.Numerals.{add-one}
 use lib.ListN.{length, set, take, drop, length-set, length-append}
 use lib.Seq.{sets, sets-eq, set_comm, set-set}
+use borrow.Rule.Slice.PartMut.{put_mid}
+use Rattle.script_records.specs.declared.layout.ScriptFile.{ScriptFile}
+use Rattle.byte_writer.specs.declared.Writer.{Writer}
 use Rattle.byte_writer.specs.Written.{written_at, Room, Wrote}
+use Rattle.byte_writer.specs.Writer.{HasRoom, Writes}
 
 pub written_long : (o : List ℕ) (at : ℕ) (bs : List ℕ) → length (written_at o at bs) ≡ length o
 unfolding written_at
@@ -95,3 +100,36 @@ room_first o at x y h = omega (arith, length-append x y)
 
 pub room_rest : {o o₁ : List ℕ} {at m : ℕ} {x : List ℕ} (y : List ℕ) → Wrote o at x m o₁ → Room o at (x ++ y) → Room o₁ m y
 room_rest {x = x} y d h = omega (arith, d.after, d.long, length-append x y)
+
+-- of writers
+
+pub writes_none : (w : Writer) → Writes w [] w
+writes_none w = record { same_script = refl; same_output = refl; wrote = wrote_none w.output.now w.at }
+
+pub writes_then : {a b c : Writer} {x y : List ℕ} → Writes a x b → Writes b y c → Writes a (x ++ y) c
+writes_then p q = record {
+  same_script = q.same_script ∙ p.same_script;
+  same_output = q.same_output ∙ p.same_output;
+  wrote = wrote_then p.wrote q.wrote;
+}
+
+-- what is written next may name strings of the script file
+pub writes_next : {a b c : Writer} {x : List ℕ} (f : ScriptFile → List ℕ) → Writes a x b → Writes b (f b.script) c → Writes a (x ++ f a.script) c
+writes_next {b = b} {c = c} f p q = writes_then p (subst (λ (s : ScriptFile). Writes b (f s) c) p.same_script q)
+
+pub has_first : (w : Writer) (x y : List ℕ) → HasRoom w (x ++ y) → HasRoom w x
+has_first w x y h = room_first w.output.now w.at x y h
+
+pub has_rest : {a b : Writer} {x : List ℕ} (y : List ℕ) → Writes a x b → HasRoom a (x ++ y) → HasRoom b y
+has_rest y p h = room_rest y p.wrote h
+
+pub has_next : {a b : Writer} {x : List ℕ} (f : ScriptFile → List ℕ) → Writes a x b → HasRoom a (x ++ f a.script) → HasRoom b (f b.script)
+has_next {a} {b} f p h = subst (λ (s : ScriptFile). HasRoom b (f s)) (sym p.same_script) (has_rest (f a.script) p h)
+
+-- a part of the output that takes these bytes
+pub part_is : (o : List ℕ) (at : ℕ) (bs : List ℕ) → Room o at bs → put_mid at (at + length bs - at) o bs ≡ written_at o at bs
+part_is o at bs h =
+    let e : at + length bs - at ≡ length bs = omega arith in
+    rw (written_is o at bs h, e) (grind (arith, common_steps))
+
+pub ruleset writing = (writes_none, writes_then, has_first, has_rest)

@@ -1,15 +1,9 @@
 -- The bytes that an entry's words stand for, by its code.
 use Rattle.std.specs.Prelude.{ℕ, List, [], ◌∷◌, ◌++◌, map, cond, eqb, leb, ltb, length, take, drop}
-use Rattle.hir.specs.Hir.{Str}
 use Rattle.script_records.specs.declared.layout.Layout.{Layout}
-use Rattle.script_records.specs.Layout.{string_at}
 use Rattle.list_slice.specs.Entry.{bit, is_one}
-use Rattle.list_slice.specs.File.{no_string}
+use Rattle.slice_words.specs.References.{text_at}
 use Rattle.action_format.specs.Bytes.{Bytes, word, zero_ended, join, constant_bytes}
-
--- a string by its reference
-unfoldable pub text_at : List ℕ → Layout → (reference : ℕ) → Str
-text_at F l r = cond (eqb r no_string) [] (string_at F l r)
 
 -- a pushed value after its type
 unfoldable pub operand_data : List ℕ → Layout → (type a b : ℕ) → Bytes

@@ -1,12 +1,8 @@
 -- The header of a function, from its record in the file.
-use Rattle.std.specs.Prelude.{ℕ, ◌+◌, ◌-◌, ◌*◌, ◌≤◌, ◌≡◌, List, [], ◌∷◌, ◌++◌, Bool, true, false, ltb, length, get_or}
-use Rattle.hir.specs.declared.Record.{Record}
-use Rattle.hir.specs.declared.Record.TheVariants as kind
+use Rattle.std.specs.Prelude.{ℕ, ◌+◌, ◌-◌, ◌*◌, ◌≤◌, ◌≡◌, List, [], ◌∷◌, ◌++◌, Bool, true, false, ltb, length, get_or, Option, unwrap_or}
 use Rattle.pcode.specs.Pcode as pcode
-use Rattle.decode.specs.declared.Name.{Name}
-use Rattle.decode.specs.declared.Name.TheVariants as name
+use Rattle.decode.specs.declared.Function.{Function}
 use Rattle.script_records.specs.declared.layout.Layout.{Layout}
-use Rattle.script_records.specs.declared.layout.Row.{Row}
 use Rattle.script_records.specs.declared.part.Part.{Part}
 use Rattle.script_records.specs.Layout.{row_in, words_of}
 use Rattle.decode.specs.Numbers.{bit}
@@ -16,28 +12,12 @@ use Rattle.list_slice.specs.File.{no_string, params_of}
 use Rattle.action_format.specs.Bytes.{Bytes, word, zero_ended, join}
 use Rattle.tree.specs.Trees.{rows_in, trees}
 use Rattle.tree.specs.Within.{Within}
-use Rattle.byte_writer.specs.declared.header.Param.{Param}
-use Rattle.byte_writer.specs.Data.{text_at, framed}
+use Rattle.slice_words.specs.References.{text_at}
+use Rattle.byte_writer.specs.Data.{framed}
 
--- the reference of a function's name, and of a parameter's; a parameter's record holds its register plus 1, or 0 for none
-
-abbrev pub name_reference : Name → ℕ
-name_reference name.None = no_string
-name_reference (name.Index i) = i
-
-abbrev pub nameless_param : Param
-nameless_param = record { name = no_string; register = 0 }
-
-abbrev pub param_of : Record → Param
-param_of (kind.Parameter n r) = record { name = n; register = r - 1 }
-param_of (kind.ObjectField n) = record { name = n; register = 0 }
-param_of (kind.Statement k) = nameless_param
-param_of (kind.Expr k) = nameless_param
-param_of kind.Absent = nameless_param
-param_of (kind.List n) = nameless_param
-param_of kind.Case = nameless_param
-param_of kind.Default = nameless_param
-param_of kind.Other = nameless_param
+-- the reference of a function's name
+abbrev pub name_reference : Option ℕ → ℕ
+name_reference n = unwrap_or n no_string
 
 -- a parameter of DefineFunction2 has its register before its name
 unfoldable pub param_data : (wide : Bool) → pcode.Param → Bytes
@@ -62,16 +42,18 @@ abbrev pub header_code : (wide : Bool) → ℕ
 header_code true = 0x8E
 header_code false = 0x9B
 
--- the record of a function, its parameters, and its body's byte count
-unfoldable pub header_data : List ℕ → Layout → Row → List pcode.Param → (size : ℕ) → Bytes
-header_data F l row ps size =
-    let f = function_of (words_of row) in
+-- a function, its parameters, and its body's byte count
+unfoldable pub header_data : List ℕ → Layout → Function → List pcode.Param → (size : ℕ) → Bytes
+header_data F l f ps size =
     let wide = ltb 1 f.register_count in
     zero_ended (text_at F l (name_reference f.name)) ++
     (word 2 (length ps) ++ (marks_data wide f.register_count f.marks ++ (params_data wide ps ++ word 2 size)))
 
-abbrev pub is_wide : Row → Bool
-is_wide row = ltb 1 (function_of (words_of row)).register_count
+abbrev pub function_in : List ℕ → (k : ℕ) → Function
+function_in F k = function_of (words_of (row_in (rows_in F) k))
+
+abbrev pub is_wide : Function → Bool
+is_wide f = ltb 1 f.register_count
 
 -- of record k, whose children are the parameters and the body
 
@@ -82,10 +64,10 @@ abbrev pub params_at : List ℕ → ℕ → List pcode.Param
 params_at F k = params_of (list 1 (trees F (kids_of F k)))
 
 unfoldable pub function_data : List ℕ → Layout → (k size : ℕ) → Bytes
-function_data F l k size = header_data F l (row_in (rows_in F) k) (params_at F k) size
+function_data F l k size = header_data F l (function_in F k) (params_at F k) size
 
 unfoldable pub function_bytes : List ℕ → Layout → (k size : ℕ) → Bytes
-function_bytes F l k size = framed (header_code (is_wide (row_in (rows_in F) k))) (function_data F l k size)
+function_bytes F l k size = framed (header_code (is_wide (function_in F k))) (function_data F l k size)
 
 -- record k is a function's, in a file whose tree can be walked
 pub record IsFunction (F : List ℕ) (l : Layout) (k : ℕ) : Type 0 where

@@ -1,3 +1,4 @@
 pub mod Written
 pub mod Data
+pub mod Writer
 pub mod Header

@@ -9,7 +9,7 @@ written_at o at (b ∷ bs) = written_at (set o at b) (at + 1) bs
 abbrev pub Room : List ℕ → (at : ℕ) → (bytes : List ℕ) → Type 0
 Room o at bs = at + length bs ≤ length o
 
--- what a writer gives: the position after them, and the output with them
+-- the position after them, and the output with them
 pub record Wrote (o : List ℕ) (at : ℕ) (bytes : List ℕ) (next : ℕ) (o' : List ℕ) : Type 0 where
   pub after : next ≡ at + length bytes
   pub output : o' ≡ written_at o at bytes

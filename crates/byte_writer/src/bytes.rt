@@ -1,63 +1,51 @@
 // Bytes, numbers and strings.
-ghost use Rattle.std.specs.Prelude.{◌≡◌, List, [], ◌∷◌, ◌+◌, ◌<◌, ◌≤◌, length};
+ghost use Rattle.std.specs.Prelude.{[], ◌∷◌};
 ghost use Rattle.action_format.specs.Bytes.{word, zero_ended};
-ghost use Rattle.byte_writer.specs.Written.{Room, Wrote};
-ghost use Rattle.byte_writer.specs.Data.{text_at};
+ghost use Rattle.slice_words.specs.References.{text_at};
+ghost use Rattle.byte_writer.specs.Writer.{HasRoom, Writes};
 
-use script_records::layout::{Layout, string};
+use crate::Writer;
+use slice_words::text;
 
-pub fn put_byte(output: &mut [u8], at: usize, b: u8) -> usize
-    requires { at < length output.old }
-    ensures { Wrote output.old at (b ∷ []) result output.new }
-{
-    output[at] = b;
-    at + 1
-}
-
-// A number in k bytes, least significant first.
-pub fn put_word(output: &mut [u8], at: usize, k: usize, n: u32) -> usize
-    requires { at + k ≤ length output.old }
-    ensures { Wrote output.old at (word k n) result output.new }
-{
-    let mut next = at;
-    let end = at + k;
-    let mut rest = n;
-    while next != end {
-        output[next] = (rest % 256) as u8;
-        rest = rest / 256;
-        next += 1;
+impl Writer<'_> {
+    pub fn byte(&mut self, b: u8)
+        requires { HasRoom self.old (b ∷ []) }
+        ensures { Writes self.old (b ∷ []) self.new }
+    {
+        self.output[self.at] = b;
+        self.at += 1;
     }
-    next
-}
 
-fn put_part(part: &[u8], output: &mut [u8], at: usize) -> usize
-    requires { Room output.old at part.now }
-    ensures { Wrote output.old at part.now result output.new }
-{
-    let mut i: usize = 0;
-    while i < part.len() {
-        output[at + i] = part[i];
-        i += 1;
+    // A number in k bytes, least significant first.
+    pub fn word(&mut self, k: usize, n: u32)
+        requires { HasRoom self.old (word k n) }
+        ensures { Writes self.old (word k n) self.new }
+    {
+        let at = self.at;
+        let mut rest = n;
+        for i in 0..k {
+            self.output[at + i] = (rest % 256) as u8;
+            rest /= 256;
+        }
+        self.at = at + k;
     }
-    at + i
-}
 
-// The string of a reference.
-pub fn text(file: &[u8], l: Layout, reference: u32) -> &[u8]
-    ensures { result.now ≡ text_at file.now l reference }
-{
-    if reference == 0xffff_ffff {
-        return &file[0..0];
+    fn part(&mut self, bytes: &[u8])
+        requires { HasRoom self.old bytes.now }
+        ensures { Writes self.old bytes.now self.new }
+    {
+        let end = self.at + bytes.len();
+        self.output[self.at..end].copy_from_slice(bytes);
+        self.at = end;
     }
-    string(file, l, reference as usize)
-}
 
-// A string of the file with its zero.
-pub fn put_text(file: &[u8], l: Layout, reference: u32, output: &mut [u8], at: usize) -> usize
-    requires { Room output.old at (zero_ended (text_at file.now l reference)) }
-    ensures { Wrote output.old at (zero_ended (text_at file.now l reference)) result output.new }
-{
-    let s = text(file, l, reference);
-    let next = put_part(s, output, at);
-    put_byte(output, next, 0)
+    // A string of the file with its zero.
+    pub fn text(&mut self, reference: u32)
+        requires { HasRoom self.old (zero_ended (text_at self.old.script.bytes.now self.old.script.layout reference)) }
+        ensures { Writes self.old (zero_ended (text_at self.old.script.bytes.now self.old.script.layout reference)) self.new }
+    {
+        let script = self.script;
+        self.part(text(&script, reference));
+        self.byte(0);
+    }
 }

@@ -1,7 +1,17 @@
 #![tactic(auto)]
 
-// Action bytes, written into a lent output from a position on. Each function gives the position after what it wrote.
-pub mod bytes;
-pub mod header;
-pub mod records;
-pub mod values;
+// Action bytes, written into a lent output.
+mod bytes;
+mod header;
+mod records;
+mod values;
+
+use script_records::layout::ScriptFile;
+
+// Writes at `at` and goes on after what it wrote. References name strings and functions of the script file.
+#[derive(Drop)]
+pub struct Writer<'a> {
+    pub script: ScriptFile<'a>,
+    pub output: &'a mut [u8],
+    pub at: usize,
+}

@@ -1,98 +1,86 @@
 // Records: code, length of the data, data. The data is written first, so that its length is known.
-ghost use Rattle.std.specs.Prelude.{◌≡◌, ◌+◌, ◌-◌, ◌≤◌, length};
-ghost use Rattle.byte_writer.specs.Written.{Room, Wrote};
-ghost use Rattle.byte_writer.specs.Data.{frame, pool_at01, pool_data, action_data, action_bytes};
+ghost use Rattle.std.specs.Prelude.{◌≡◌, ◌+◌, ◌≤◌, length};
+ghost use Rattle.byte_writer.specs.Writer.{HasRoom, Writes, Frames};
+ghost use Rattle.byte_writer.specs.Data.{pool_at01, pool_data, action_data, action_bytes};
 
-use crate::bytes::{put_text, put_word};
-use crate::values::is_one;
-use script_records::layout::Layout;
+use crate::Writer;
+use slice_words::{Entry, POOL_AT, code};
 
-// The code and the length of a record whose data ends at `end`.
-pub fn put_frame(output: &mut [u8], at: usize, code: u32, end: usize) -> usize
-    requires at_bound { at + 3 ≤ end }
-    requires end_in_bounds { end ≤ length output.old }
-    requires end_bound { end ≤ at + 65538 }
-    ensures { Wrote output.old at (frame code (end - (at + 3))) result output.new }
-{
-    let next = put_word(output, at, 1, code);
-    put_word(output, next, 2, (end - (at + 3)) as u32)
-}
+impl Writer<'_> {
+    // Leaves room for a record's code and length. Gives where the record begins.
+    pub fn begin(&mut self) -> usize
+        requires { self.old.at + 3 ≤ length self.old.output.now }
+        ensures begun { result ≡ self.old.at }
+        ensures room_left { self.new ≡ record self.old { at = self.old.at + 3 } }
+    {
+        let begun = self.at;
+        self.at += 3;
+        begun
+    }
 
-// The pool's n strings, whose references are the pool words of the list slice.
-fn put_pool(file: &[u8], l: Layout, list: &[u32], n: u32, output: &mut [u8], at: usize) -> usize
-    requires n_in_bounds { pool_at01 + n ≤ length list.now }
-    requires room { Room output.old at (pool_data file.now l list.now n) }
-    ensures { Wrote output.old at (pool_data file.now l list.now n) result output.new }
-{
-    let mut next = put_word(output, at, 2, n);
-    let mut i: usize = 14336;
-    let end = 14336 + n as usize;
-    while i != end {
-        next = put_text(file, l, list[i], output, next);
-        i += 1;
+    // The code and the length of a record that began there, and whose data ends here.
+    pub fn frame(&mut self, begun: usize, code: u32)
+        requires begun_bound { begun + 3 ≤ self.old.at }
+        requires in_bounds { self.old.at ≤ length self.old.output.now }
+        requires data_bound { self.old.at ≤ begun + 65538 }
+        ensures { Frames self.old begun code self.new }
+    {
+        let end = self.at;
+        self.at = begun;
+        self.word(1, code);
+        self.word(2, (end - (begun + 3)) as u32);
+        self.at = end;
     }
-    next
-}
 
-// The data of an action that neither pushes nor has a body.
-fn put_data(
-    file: &[u8],
-    l: Layout,
-    list: &[u32],
-    code: u32,
-    first: u32,
-    offset: u32,
-    output: &mut [u8],
-    at: usize,
-) -> usize
-    requires first_in_bounds { code ≡ 136 → pool_at01 + first ≤ length list.now }
-    requires room { Room output.old at (action_data file.now l list.now code first offset) }
-    ensures { Wrote output.old at (action_data file.now l list.now code first offset) result output.new }
-{
-    if code == 0x88 {
-        return put_pool(file, l, list, first, output, at);
+    // The pool's n strings, whose references are the pool words of the list slice.
+    fn pool(&mut self, list: &[u32], n: u32)
+        requires n_in_bounds { pool_at01 + n ≤ length list.now }
+        requires room { let s = self.old.script in HasRoom self.old (pool_data s.bytes.now s.layout list.now n) }
+        ensures { let s = self.old.script in Writes self.old (pool_data s.bytes.now s.layout list.now n) self.new }
+    {
+        self.word(2, n);
+        for reference in &list[POOL_AT..POOL_AT + n as usize] {
+            self.text(*reference);
+        }
     }
-    if code == 0x8c {
-        return put_text(file, l, first, output, at);
-    }
-    if code == 0x87 {
-        return put_word(output, at, 1, first);
-    }
-    if code == 0x9f {
-        return put_word(output, at, 1, is_one(first));
-    }
-    if code == 0x81 {
-        return put_word(output, at, 2, first);
-    }
-    if code == 0x99 {
-        return put_word(output, at, 2, offset);
-    }
-    if code == 0x9d {
-        return put_word(output, at, 2, offset);
-    }
-    at
-}
 
-// The record of such an action.
-pub fn put_action(
-    file: &[u8],
-    l: Layout,
-    list: &[u32],
-    code: u32,
-    first: u32,
-    offset: u32,
-    output: &mut [u8],
-    at: usize,
-) -> usize
-    requires first_in_bounds { code ≡ 136 → pool_at01 + first ≤ length list.now }
-    requires offset_len_bound { length (action_data file.now l list.now code first offset) ≤ 65535 }
-    requires room { Room output.old at (action_bytes file.now l list.now code first offset) }
-    ensures { Wrote output.old at (action_bytes file.now l list.now code first offset) result output.new }
-{
-    if code < 0x80 {
-        return put_word(output, at, 1, code);
+    // The data of an action that neither pushes nor has a body.
+    #[tactic(auto, using(crate::proofs::Writes::writing), unfolding(crate::specs::Data::action_data))]
+    fn data(&mut self, list: &[u32], entry: Entry, offset: u32)
+        requires first_in_bounds { entry.code ≡ 136 → pool_at01 + entry.first ≤ length list.now }
+        requires room { let s = self.old.script in
+            HasRoom self.old (action_data s.bytes.now s.layout list.now entry.code entry.first offset) }
+        ensures { let s = self.old.script in
+            Writes self.old (action_data s.bytes.now s.layout list.now entry.code entry.first offset) self.new }
+    {
+        match entry.code {
+            code::CONSTANT_POOL => self.pool(list, entry.first),
+            code::GOTO_LABEL => self.text(entry.first),
+            code::STORE_REGISTER => self.word(1, entry.first),
+            code::GOTO_FRAME_2 => self.word(1, u32::from(entry.first != 0)),
+            code::GOTO_FRAME => self.word(2, entry.first),
+            code::JUMP | code::IF => self.word(2, offset),
+            _ => {}
+        }
     }
-    let end = put_data(file, l, list, code, first, offset, output, at + 3);
-    put_frame(output, at, code, end);
-    end
+
+    // The record of such an action. A branch's data is its offset.
+    #[tactic(auto, using(crate::proofs::Writes::writing), unfolding(crate::specs::Data::action_bytes))]
+    pub fn action(&mut self, list: &[u32], entry: Entry, offset: u32)
+        requires first_in_bounds { entry.code ≡ 136 → pool_at01 + entry.first ≤ length list.now }
+        requires short { let s = self.old.script in
+            length (action_data s.bytes.now s.layout list.now entry.code entry.first offset) ≤ 65535 }
+        requires room { let s = self.old.script in
+            HasRoom self.old (action_bytes s.bytes.now s.layout list.now entry.code entry.first offset) }
+        ensures { let s = self.old.script in
+            Writes self.old (action_bytes s.bytes.now s.layout list.now entry.code entry.first offset) self.new }
+    {
+        if entry.code < code::LONG {
+            self.word(1, entry.code);
+        } else {
+            let begun = self.begin();
+            self.data(list, entry, offset);
+            self.frame(begun, entry.code);
+        }
+    }
 }

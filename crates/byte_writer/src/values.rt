@@ -1,79 +1,58 @@
 // Pushed values.
-ghost use Rattle.std.specs.Prelude.{◌≡◌, leb};
+ghost use Rattle.std.specs.Prelude.{◌%◌, leb};
 ghost use Rattle.action_format.specs.Bytes.{constant_bytes};
-ghost use Rattle.list_slice.specs.Entry.{bit, is_one};
-ghost use Rattle.byte_writer.specs.Written.{Room, Wrote};
+ghost use Rattle.byte_writer.specs.Writer.{HasRoom, Writes};
 ghost use Rattle.byte_writer.specs.Data.{operand_data, value_data};
 
-use crate::bytes::{put_byte, put_text, put_word};
-use script_records::layout::Layout;
+use crate::Writer;
+use slice_words::{Entry, value};
 
-pub fn is_one(a: u32) -> u32
-    ensures { result ≡ bit (is_one a) }
-{
-    if a == 0 { 0 } else { 1 }
-}
+impl Writer<'_> {
+    // What follows the type of a value.
+    #[tactic(auto, using(crate::proofs::Writes::writing), unfolding(crate::specs::Data::operand_data))]
+    fn operand(&mut self, kind: u8, first: u32, second: u32)
+        requires { let s = self.old.script in HasRoom self.old (operand_data s.bytes.now s.layout kind first second) }
+        ensures { let s = self.old.script in Writes self.old (operand_data s.bytes.now s.layout kind first second) self.new }
+    {
+        match kind {
+            value::STRING => self.text(first),
+            value::REGISTER => self.word(1, first),
+            value::BOOLEAN => self.word(1, u32::from(first != 0)),
+            value::FLOAT => {
+                self.word(4, first);
+                self.word(4, second);
+            }
+            value::INTEGER => self.word(4, first),
+            _ => {}
+        }
+    }
 
-// What follows the type of a value.
-fn put_operand(
-    file: &[u8],
-    l: Layout,
-    t: u8,
-    first: u32,
-    second: u32,
-    output: &mut [u8],
-    at: usize,
-) -> usize
-    requires { Room output.old at (operand_data file.now l t first second) }
-    ensures { Wrote output.old at (operand_data file.now l t first second) result output.new }
-{
-    if t == 0 {
-        return put_text(file, l, first, output, at);
+    #[tactic(auto, using(crate::proofs::Writes::writing))]
+    fn constant(&mut self, index: u32)
+        requires { HasRoom self.old (constant_bytes index (leb 256 index)) }
+        ensures { Writes self.old (constant_bytes index (leb 256 index)) self.new }
+    {
+        if index < 256 {
+            self.byte(value::CONSTANT);
+            self.byte(index as u8);
+        } else {
+            self.byte(value::LONG_CONSTANT);
+            self.word(2, index);
+        }
     }
-    if t == 4 {
-        return put_word(output, at, 1, first);
-    }
-    if t == 5 {
-        return put_word(output, at, 1, is_one(first));
-    }
-    if t == 6 {
-        let half = put_word(output, at, 4, first);
-        return put_word(output, half, 4, second);
-    }
-    if t == 7 {
-        return put_word(output, at, 4, first);
-    }
-    at
-}
 
-fn put_constant(index: u32, output: &mut [u8], at: usize) -> usize
-    requires { Room output.old at (constant_bytes index (leb 256 index)) }
-    ensures { Wrote output.old at (constant_bytes index (leb 256 index)) result output.new }
-{
-    if index < 256 {
-        let next = put_byte(output, at, 8);
-        return put_byte(output, next, index as u8);
+    // A value with its type, by the words of its entry.
+    #[tactic(auto, using(crate::proofs::Writes::writing), unfolding(crate::specs::Data::value_data))]
+    pub fn value(&mut self, entry: Entry)
+        requires { let s = self.old.script in HasRoom self.old (value_data s.bytes.now s.layout (entry.code % 16) entry.first entry.second) }
+        ensures { let s = self.old.script in Writes self.old (value_data s.bytes.now s.layout (entry.code % 16) entry.first entry.second) self.new }
+    {
+        let kind = (entry.code % 16) as u8;
+        if kind == value::CONSTANT {
+            self.constant(entry.first);
+        } else {
+            self.byte(kind);
+            self.operand(kind, entry.first, entry.second);
+        }
     }
-    let next = put_byte(output, at, 9);
-    put_word(output, next, 2, index)
-}
-
-// A value of this type, with the words of its entry.
-pub fn put_value(
-    file: &[u8],
-    l: Layout,
-    t: u8,
-    first: u32,
-    second: u32,
-    output: &mut [u8],
-    at: usize,
-) -> usize
-    requires { Room output.old at (value_data file.now l t first second) }
-    ensures { Wrote output.old at (value_data file.now l t first second) result output.new }
-{
-    if t == 8 {
-        return put_constant(first, output, at);
-    }
-    let next = put_byte(output, at, t);
-    put_operand(file, l, t, first, second, output, next)
 }

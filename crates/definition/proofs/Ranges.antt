@@ -26,7 +26,8 @@ use Rattle.utf8.specs.Utf8.{utf8}
 use Rattle.script_records.specs.declared.layout.Layout.{Layout}
 use Rattle.script_records.specs.Layout.{Words, supported, trailer_at, record_distance, end_distance, record_count, string_count, layout_of, string_at, strings_from, strings_of, rows_of}
 use Rattle.decode.specs.Decode.{signed, is_one, constant_of, condition_of, statement_kinds, expr_kinds, plain_of, when, record_of}
-use Rattle.script.specs.Forms.{Form, form, string, below, for_in_form, constant_forms, unknown, form_of, has_form, fits}
+use Rattle.script.specs.declared.forms.Scalar.TheVariants.{Below as below, String as string}
+use Rattle.script.specs.Forms.{Form, form, for_in_form, constant_forms, unknown, form_of, has_form, fits}
 use Rattle.script.specs.Rules.{rules_hold, all_utf8, all_supported, max_bytes, max_depth, tree_in, check_of}
 use Rattle.decode.specs.Numbers.{unsigned}
 use Rattle.script.specs.Resolve.{constant_over, expr_over, statement_over, resolved, script_of}

@@ -4,8 +4,9 @@ use mathlib.Core.Path.{◌≡◌, refl, sym, ap, ◌∙◌}
 use mathlib.Core.Bool.{Bool, false}
 use mathlib.Core.List.{List}
 use native.Mathlib.Omega.{arith}
-use lib.Dec.{T}
+use lib.Dec.{T, eqb}
 use lib.ListN.{length}
+use borrow.Author.Tests.{eqb-false}
 use Rattle.hir.specs.declared.ConstantKind.{ConstantKind}
 use Rattle.hir.specs.declared.ExprKind.{ExprKind}
 use Rattle.hir.specs.declared.ExprKind.TheVariants as expr-kind
@@ -37,13 +38,16 @@ use Rattle.leaves.specs.Args.{Args, Unchanged}
 use Rattle.leaves.proofs.Constants.{Reads}
 
 -- what a part's last tree generates as an expression
-module _ {F : List ℕ} {l : Layout} {p : Part} {t : Node} (n : IsNode F l p t) where
+module _ {F : List ℕ} {l : Layout} {p : Part} {t : Node Part} (n : IsNode F l p t) where
   pub expr_any : (d : Bool) → (kid_at F p 0).gen_expr d ≡ expr_of (rec_of F t.root) (meanings_at F t.children) d
   expr_any d = ap (λ (m : Meaning). m.gen_expr d) (kid_zero F l p n)
 
   pub expr_at : {k : ExprKind} (d : Bool) → t.root ≡ kind.Expr k → (kid_at F p 0).gen_expr d ≡ gen_expr (expr_over (string_at F (layout_of F)) k) (meanings_at F t.children) d
   unfolding resolved
   expr_at d e = expr_any d ∙ rw e
+
+pub some_left : {n : ℕ} → false ≡ eqb n 0 → n ≡ 0 → ⊥
+some_left {n} h = eqb-false n 0 (sym h)
 
 pub args_holds : (F : List ℕ) (l : Layout) (w : List ℕ) (p : Part) (b : CodeBuilder) → Within F l p → Fine b w → Args F l w p b w p b
 args_holds F l w p b i f = record { same = refl; fine = f; named = λ n. n; within = i; fewer = omega arith; list = refl }
@@ -59,12 +63,12 @@ args_then i j = record {
   list = j.list ∙ i.list;
 }
 
-pub reversed_more : (F : List ℕ) (l : Layout) (p : Part) {t : Node} → IsNode F l p t → 0 < p.n → exprs_reversed (meanings_at F p) ≡ expr (kid_at F p 0) >> exprs_reversed (meanings_at F t.before)
+pub reversed_more : (F : List ℕ) (l : Layout) (p : Part) {t : Node Part} → IsNode F l p t → 0 < p.n → exprs_reversed (meanings_at F p) ≡ expr (kid_at F p 0) >> exprs_reversed (meanings_at F t.before)
 unfolding meanings
 reversed_more F l p i h = rw (trees_more F l p i h)
 
 module _ {F : List ℕ} {l : Layout} {w0 : List ℕ} {p : Part} {b0 : CodeBuilder} {w : List ℕ} {left : Part} {b : CodeBuilder} (i : Args F l w0 p b0 w left b) where
-  args_again_at : (left.n ≡ 0 → ⊥) → {t : Node} → t ≡ node_of F l left → {b1 : CodeBuilder} {w1 : List ℕ} → Does F ((kid_at F left 0).gen_expr false) b w tt b1 w1 → length w1 ≡ length w →
+  args_again_at : (left.n ≡ 0 → ⊥) → {t : Node Part} → t ≡ node_of F l left → {b1 : CodeBuilder} {w1 : List ℕ} → Does F ((kid_at F left 0).gen_expr false) b w tt b1 w1 → length w1 ≡ length w →
       Args F l w0 p b0 w1 t.before b1
   args_again_at z {t} e {b1} {w1} o q =
       let g = is_node F l left i.within e in
@@ -104,7 +108,7 @@ module _ {F : List ℕ} {l : Layout} {w0 : List ℕ} {p : Part} {b0 : CodeBuilde
   module _ (z : left.n ≡ 0 → ⊥) {t : Tree} (e : t ≡ last_tree (rows_of F l) left) (h : t.row.kind ≡ 32) {c : ConstantKind} (q : c ≡ constant_of (words_of t.row)) where
     root_is : (node_of F l left).root ≡ kind.Expr (expr-kind.Constant c)
     unfolding record_of
-    root_is = ap (λ (n : Node). n.root) (sym (node_made F l left z e refl)) ∙ rw (q, h)
+    root_is = ap (λ (n : Node Part). n.root) (sym (node_made F l left z e refl)) ∙ rw (q, h)
 
     pub args_named : T (constant_named F c)
     args_named = rw root_is at (is_node F l left i.within refl).named
@@ -114,19 +118,19 @@ module _ {F : List ℕ} {l : Layout} {w0 : List ℕ} {p : Part} {b0 : CodeBuilde
 
 -- a Void, of kind 48, generates nothing
 module _ (F : List ℕ) (l : Layout) (left : Part) (k : kind_at F l left ≡ 48) where
-  some_left : left.n ≡ 0 → ⊥
-  some_left z = omega (arith, kind_none F l left z)
+  a_void : left.n ≡ 0 → ⊥
+  a_void z = omega (arith, kind_none F l left z)
 
   module _ {p before : Part} (i : Unchanged F l p left) (e : before ≡ (node_of F l left).before) where
     pub void_less : before.n < left.n
-    void_less = rw e (omega (arith, some_left, (is_node F l left i.within refl).apart))
+    void_less = rw e (omega (arith, a_void, (is_node F l left i.within refl).apart))
 
     pub void_out : Unchanged F l p before
     void_out =
         let g = is_node F l left i.within refl in
         let nothing : (v : Held (Unit {0})) → after v ((kid_at F left 0).gen_expr false) ≡ v = λ v. rw (expr_at g false (void_root F l left k)) (after_done v) in
         rw e (record {
-          same = λ v. sym (rw (reversed_more F l left g (omega (arith, some_left)), after_then, nothing v) refl) ∙ i.same v;
+          same = λ v. sym (rw (reversed_more F l left g (omega (arith, a_void)), after_then, nothing v) refl) ∙ i.same v;
           within = g.rest_within;
           fewer = omega (arith, g.apart, i.fewer);
         })

@@ -1,11 +1,11 @@
 -- Numbers in two's complement: one less, the negative, the sign of a float.
-use Prim.Native.Nat.{ℕ, zero, suc, ◌+◌, ◌-◌, ◌*◌, ◌%◌, ◌≤◌, ◌<◌}
-use mathlib.Core.Path.{◌≡◌, refl, sym, ◌∙◌}
-use mathlib.Core.Bool.{true, false}
+use Prim.Native.Nat.{ℕ, zero, suc, ◌+◌, ◌-◌, ◌*◌, ◌%◌, ◌<◌}
+use mathlib.Core.Path.{◌≡◌, refl}
+use mathlib.Core.Bool.{Bool, true, false}
 use native.Mathlib.Omega.{arith}
 use lib.Dec.{eqb}
-use lib.IntN.{ℤ, pos, negsuc, pred_ℤ, neg_ℤ, ◌-ℤ◌, -ℤ_one, +ℤ_idl}
-use borrow.Author.Tests.{eq-eqb, ne_eqb}
+use lib.IntN.{ℤ, pos, negsuc, neg_ℤ}
+use borrow.Author.Tests.{eqb-false, ne_eqb}
 use mir.Syntax.{w32}
 use mir.Val.{SFits, of_z}
 use Rattle.decode.specs.Numbers.{unsigned}
@@ -16,82 +16,46 @@ word_is : (z : ℤ) → of_z w32 z ≡ unsigned z
 word_is (pos n) = refl
 word_is (negsuc n) = omega arith
 
-unsigned_below : (z : ℤ) → SFits w32 z → unsigned z < 0x1_0000_0000
-unsigned_below (pos n) f = omega (arith, f.sfits)
-unsigned_below (negsuc n) f = omega arith
+-- only the least number has no negative
 
-pub is_least : (z : ℤ) → of_z w32 z ≡ 0x8000_0000 → eqb (unsigned z) 0x8000_0000 ≡ true
-is_least z e = eq-eqb (unsigned z) 0x8000_0000 (sym (word_is z) ∙ e)
-
-pub not_least : (z : ℤ) → (of_z w32 z ≡ 0x8000_0000 → ⊥) → eqb (unsigned z) 0x8000_0000 ≡ false
-not_least z h = ne_eqb (unsigned z) 0x8000_0000 (λ e. h (word_is z ∙ e))
-
--- one less, wrapping
-
-pub less_least : (z : ℤ) → of_z w32 z ≡ 0x8000_0000 → 0x7fff_ffff ≡ (unsigned z + 0xffff_ffff) % 0x1_0000_0000
-less_least z e = rw (sym (word_is z) ∙ e)
-
-less_fits : (z : ℤ) → SFits w32 z → (of_z w32 z ≡ 0x8000_0000 → ⊥) → SFits w32 (pred_ℤ z)
-less_fits (pos zero) f h = record { sfits = omega arith }
-less_fits (pos (suc n)) f h = record { sfits = omega (arith, f.sfits) }
-less_fits (negsuc n) f h = record { sfits = omega (arith, f.sfits, more) }
+neg_fits : (z : ℤ) → SFits w32 z → (unsigned z ≡ 0x8000_0000 → ⊥) → SFits w32 (neg_ℤ z)
+neg_fits (pos zero) f h = record { sfits = omega arith }
+neg_fits (pos (suc n)) f h = record { sfits = omega (arith, f.sfits) }
+neg_fits (negsuc n) f h = record { sfits = omega (arith, f.sfits, more) }
   where
     more : (suc n ≡ 0x8000_0000 → ⊥)
     more e = h (omega arith)
 
-less_word : (z : ℤ) → SFits w32 z → (of_z w32 z ≡ 0x8000_0000 → ⊥) → unsigned (pred_ℤ z) ≡ (unsigned z + 0xffff_ffff) % 0x1_0000_0000
-less_word (pos zero) f h = refl
-less_word (pos (suc n)) f h = omega (arith, f.sfits)
-less_word (negsuc n) f h = omega (arith, f.sfits, more)
+least_unfit : (z : ℤ) → SFits w32 z → SFits w32 (neg_ℤ z) → unsigned z ≡ 0x8000_0000 → ⊥
+least_unfit (pos n) f g e = omega (arith, f.sfits)
+least_unfit (negsuc n) f g e = omega (arith, g.sfits)
+
+pub is_least : (z : ℤ) → SFits w32 z → (SFits w32 (neg_ℤ z) → ⊥) → eqb (unsigned z) 0x8000_0000 ≡ true
+is_least z f h = by (eqb (unsigned z) 0x8000_0000) refl
   where
-    more : (suc n ≡ 0x8000_0000 → ⊥)
-    more e = h (omega arith)
+    by : (b : Bool) → eqb (unsigned z) 0x8000_0000 ≡ b → b ≡ true
+    by true e = refl
+    by false e = absurd (h (neg_fits z f (eqb-false _ _ e)))
 
-pub one_less_fits : (z : ℤ) → SFits w32 z → (of_z w32 z ≡ 0x8000_0000 → ⊥) → SFits w32 (z -ℤ pos 1)
-one_less_fits z f h = rw (-ℤ_one z) (less_fits z f h)
+pub not_least : (z : ℤ) → SFits w32 z → SFits w32 (neg_ℤ z) → eqb (unsigned z) 0x8000_0000 ≡ false
+not_least z f g = ne_eqb (unsigned z) 0x8000_0000 (least_unfit z f g)
 
-pub one_less : (z : ℤ) → SFits w32 z → (of_z w32 z ≡ 0x8000_0000 → ⊥) → unsigned (z -ℤ pos 1) ≡ (unsigned z + 0xffff_ffff) % 0x1_0000_0000
-one_less z f h = rw (-ℤ_one z) (less_word z f h)
-
--- the negative
-
-plain_fits : (z : ℤ) → SFits w32 z → (of_z w32 z ≡ 0x8000_0000 → ⊥) → SFits w32 (neg_ℤ z)
-plain_fits (pos zero) f h = record { sfits = omega arith }
-plain_fits (pos (suc n)) f h = record { sfits = omega (arith, f.sfits) }
-plain_fits (negsuc n) f h = record { sfits = omega (arith, f.sfits, more) }
-  where
-    more : (suc n ≡ 0x8000_0000 → ⊥)
-    more e = h (omega arith)
-
-plain_word : (z : ℤ) → SFits w32 z → unsigned (neg_ℤ z) ≡ (0x1_0000_0000 - unsigned z) % 0x1_0000_0000
-plain_word (pos zero) f = refl
-plain_word (pos (suc n)) f = omega (arith, f.sfits)
-plain_word (negsuc n) f = omega (arith, f.sfits)
-
-pub negative_fits : (z : ℤ) → SFits w32 z → (of_z w32 z ≡ 0x8000_0000 → ⊥) → SFits w32 (pos 0 -ℤ z)
-negative_fits z f h = rw (+ℤ_idl (neg_ℤ z)) (plain_fits z f h)
-
-pub negative_word : (z : ℤ) → SFits w32 z → unsigned (pos 0 -ℤ z) ≡ (0x1_0000_0000 - unsigned z) % 0x1_0000_0000
-negative_word z f = rw (+ℤ_idl (neg_ℤ z)) (plain_word z f)
+pub negative_word : (z : ℤ) → SFits w32 z → unsigned (neg_ℤ z) ≡ (0x1_0000_0000 - unsigned z) % 0x1_0000_0000
+negative_word (pos zero) f = refl
+negative_word (pos (suc n)) f = omega (arith, f.sfits)
+negative_word (negsuc n) f = omega (arith, f.sfits)
 
 -- a frame's number
 
-pub frame_zero : (z : ℤ) → of_z w32 z ≡ 0 → 0 ≡ frame (unsigned z)
-frame_zero z e = rw (sym (word_is z) ∙ e)
+frame_at : (n : ℕ) → (n - 1) % 65536 ≡ frame n
+frame_at zero = refl
+frame_at (suc n) = let e : suc n - 1 ≡ n = omega arith in rw e
 
-frame_of : (n : ℕ) → (n ≡ 0 → ⊥) → n < 0x1_0000_0000 → ((n + 0xffff_ffff) % 0x1_0000_0000) % 65536 ≡ frame n
-frame_of zero h k = absurd (h refl)
-frame_of (suc n) h k = let e : (suc n + 0xffff_ffff) % 0x1_0000_0000 ≡ n = omega arith in rw e
-
-pub frame_less : (z : ℤ) → SFits w32 z → (of_z w32 z ≡ 0 → ⊥) → {less r : ℕ} → less ≡ (unsigned z + 0xffff_ffff) % 0x1_0000_0000 → r ≡ less % 65536 → r ≡ frame (unsigned z)
-frame_less z f h e q = rw (q, e) (frame_of (unsigned z) (λ k. h (word_is z ∙ k)) (unsigned_below z f))
+pub frame_is : (z : ℤ) {u v : ℕ} → u ≡ of_z w32 z → v ≡ u - 1 → v % 65536 ≡ frame (unsigned z)
+frame_is z e q = rw (q, e, word_is z) (frame_at (unsigned z))
 
 -- the highest bit of a float changes
 
-pub sign_set : (low high : ℕ) → low < 0x1_0000_0000 → high < 0x8000_0000 →
-    low + 0x1_0000_0000 * (high + 0x8000_0000) ≡ (low + 0x1_0000_0000 * high + 0x8000_0000_0000_0000) % 0x1_0000_0000_0000_0000
-sign_set low high h k = omega arith
-
-pub sign_cleared : (low high : ℕ) → low < 0x1_0000_0000 → 0x8000_0000 ≤ high → high < 0x1_0000_0000 →
-    low + 0x1_0000_0000 * (high - 0x8000_0000) ≡ (low + 0x1_0000_0000 * high + 0x8000_0000_0000_0000) % 0x1_0000_0000_0000_0000
-sign_cleared low high h k m = omega arith
+pub sign_flipped : (low high : ℕ) → low < 0x1_0000_0000 → high < 0x1_0000_0000 →
+    low + 0x1_0000_0000 * ((high + 0x8000_0000) % 0x1_0000_0000) ≡ (low + 0x1_0000_0000 * high + 0x8000_0000_0000_0000) % 0x1_0000_0000_0000_0000
+sign_flipped low high h k = omega arith

@@ -1,7 +1,7 @@
 -- What a parent looks at in a child's record.
-use Prim.Native.Nat.{ℕ, zero, suc, ◌+◌, ◌-◌, ◌≤◌, ◌<◌}
+use Prim.Native.Nat.{ℕ, zero, suc, ◌-◌, ◌≤◌, ◌<◌}
 use mathlib.Core.Path.{◌≡◌, refl, sym, ◌∙◌}
-use mathlib.Core.Bool.{Bool, true, false, cond, not, ◌&&◌, ◌||◌, and-false, false≢true}
+use mathlib.Core.Bool.{Bool, true, false, not, ◌&&◌, ◌||◌, and-false, false≢true}
 use mathlib.Core.List.{List, [], ◌∷◌}
 use native.Mathlib.Omega.{arith}
 use lib.Dec.{T, ltb, eqb}
@@ -13,15 +13,14 @@ use Rattle.hir.specs.declared.ExprKind.{ExprKind}
 use Rattle.hir.specs.declared.ExprKind.TheVariants as expr
 use Rattle.hir.specs.declared.Record.{Record}
 use Rattle.hir.specs.declared.Record.TheVariants as kind
+use Rattle.hir.specs.declared.StatementKind.{StatementKind}
 use Rattle.hir.specs.declared.StatementKind.TheVariants as statement
-use Rattle.pcode.specs.Pcode.{moved}
 use Rattle.script_records.specs.declared.layout.Layout.{Layout}
 use Rattle.script_records.specs.declared.part.Part.{Part}
-use Rattle.script_records.specs.Layout.{Words, words_of, supported, rows_of, row_in, layout_of, string_at}
+use Rattle.script_records.specs.Layout.{Words, words_of, supported, rows_of, row_in}
 use Rattle.script_records.specs.Parts.{last_tree}
 use Rattle.decode.specs.Decode.{statement_kinds, expr_kinds, plain_of, record_of}
 use Rattle.script.specs.Resolve.{resolved}
-use Rattle.lowering.specs.Builder.{name_delta}
 use Rattle.lowering.specs.Meaning.{Meaning, Shape, param, hoisted, is_named, shape_of, kid}
 use Rattle.lowering.specs.Statement.{meanings}
 use Rattle.list_slice.specs.File.{text_in, names_string}
@@ -31,7 +30,10 @@ use Rattle.tree.specs.Within.{Within, IsNode, record_named, kid_at, list_at}
 use Rattle.tree.proofs.Nodes.{is_node, trees_none}
 use Rattle.tree.proofs.ByKind.{either}
 use Rattle.tree.proofs.Meanings.{kid_zero, list_zero}
-use Rattle.access.proofs.Texts.{text_is}
+use Rattle.operators.specs.declared.shape.Shape as code
+use Rattle.operators.specs.declared.shape.Shape.TheVariants.{NamedFunction}
+use Rattle.operators.specs.Shapes.{shape_in}
+use Rattle.access.proofs.Texts.{text_is, no_text_lem, no_text_named}
 use Rattle.rows.proofs.Passed.{below, none_below, below_end, child_kind}
 
 -- a record's name
@@ -47,23 +49,55 @@ pub parameter_name : (F : List ℕ) (i : ℕ) {root : Record} {s n : ℕ} → ro
 unfolding resolved
 parameter_name F i {s = s} e h t = (rw e (text_is F s h), rw e at t)
 
+pub other_name : (root : Record) → ((s : ℕ) → root ≡ kind.ObjectField s → ⊥) → ((s n : ℕ) → root ≡ kind.Parameter s n → ⊥) →
+    (F : List ℕ) (i : ℕ) → length F ≤ 1048576 → T (record_named F i root) → Names F root 0xffff_ffff
+unfolding resolved
+other_name (kind.ObjectField s) h g F i = absurd (h s refl)
+other_name (kind.Parameter s n) h g F i = absurd (g s n refl)
+other_name (kind.Statement k) h g F i = λ _ _. (no_text_lem F, no_text_named F)
+other_name (kind.Expr k) h g F i = λ _ _. (no_text_lem F, no_text_named F)
+other_name kind.Absent h g F i = λ _ _. (no_text_lem F, no_text_named F)
+other_name (kind.List n) h g F i = λ _ _. (no_text_lem F, no_text_named F)
+other_name kind.Case h g F i = λ _ _. (no_text_lem F, no_text_named F)
+other_name kind.Default h g F i = λ _ _. (no_text_lem F, no_text_named F)
+other_name kind.Other h g F i = λ _ _. (no_text_lem F, no_text_named F)
+
 -- a hoisted function
 
 abbrev Looked : Record → Bool → Type 0
 Looked root x = (F : List ℕ) (kids : Forest Meaning) → hoisted (rec_of F root) kids ≡ (x && is_named (shape_of (kid 0 kids).rec))
 
-module _ (F : List ℕ) (l : Layout) (p : Part) {t : Node} (w : Within F l p) (e : t ≡ node_of F l p) where
+module _ (F : List ℕ) (l : Layout) (p : Part) {t : Node Part} (w : Within F l p) (e : t ≡ node_of F l p) where
   inner : (x : Bool) → Looked t.root x → hoisted (kid_at F p 0).rec (list_at F p 0) ≡ (x && is_named (shape_of (kid 0 (meanings (trees F t.children))).rec))
   inner x h = let i = is_node F l p w e in rw (kid_zero F l p i, list_zero F l p i) (h F (meanings (trees F t.children)))
 
   pub not_expr : (x : Bool) → x ≡ false → Looked t.root x → false ≡ hoisted (kid_at F p 0).rec (list_at F p 0)
   not_expr x q h = sym (rw q at (inner x h))
 
-  pub by_shape : (x : Bool) {k : Node} (s : Shape) → x ≡ true → Looked t.root x → k ≡ node_of F l t.children → s ≡ shape_of (rec_of F k.root) →
+  pub by_shape : (x : Bool) {k : Node Part} (s : Shape) → x ≡ true → Looked t.root x → k ≡ node_of F l t.children → s ≡ shape_of (rec_of F k.root) →
       is_named s ≡ hoisted (kid_at F p 0).rec (list_at F p 0)
   by_shape x {k} s q h m v =
       let within = (is_node F l p w e).kids_within in
       sym (rw (q, kid_zero F l t.children (is_node F l t.children within m), ← v) at (inner x h))
+
+-- a shape that is no named function
+pub named_is : (F : List ℕ) (s : code.Shape) → s ≡ NamedFunction → true ≡ is_named (shape_in F s)
+named_is F s e = rw e
+
+pub unnamed_is : (F : List ℕ) (s : code.Shape) → (s ≡ NamedFunction → ⊥) → false ≡ is_named (shape_in F s)
+unnamed_is F NamedFunction h = absurd (h refl)
+unnamed_is F _ h = refl
+
+-- records that are no statement that is an expression
+pub other_statement : (F : List ℕ) (kids : Forest Meaning) (k : StatementKind) → (k ≡ statement.Expr → ⊥) → hoisted (rec_of F (kind.Statement k)) kids ≡ false
+unfolding resolved
+other_statement F kids statement.Expr h = absurd (h refl)
+other_statement F kids _ h = refl
+
+pub no_statement : (F : List ℕ) (kids : Forest Meaning) (r : Record) → ((k : StatementKind) → r ≡ kind.Statement k → ⊥) → hoisted (rec_of F r) kids ≡ false
+unfolding resolved
+no_statement F kids (kind.Statement k) h = absurd (h k refl)
+no_statement F kids _ h = refl
 
 -- a statement that is an expression has the kind 3
 
@@ -224,26 +258,3 @@ module _ (F : List ℕ) (l : Layout) (p : Part) (w : Within F l p) where
       by false x =
           let k : kind_at F l (below F l p w) ≡ 49 → ⊥ = λ q. h (sym (child_kind F l p w (eqb-false _ 0 x)) ∙ q) in
           sym (unnamed_child (kid_at F p 0).rec (list_at F p 0) (rw (list_zero F l p (is_node F l p w refl), kid_zero F l (below F l p w) kids_of_lem) (unnamed_root F l (below F l p w) k)))
-
--- a function without a name leaves its value
-
-abbrev pub Left : List ℕ → (name r : ℕ) → Type 0
-Left F name r = (r ≤ 1) × ((z : ℕ) → moved (name_delta (cond (eqb name 0) [] (string_at F (layout_of F) (name - 1)))) z ≡ z + r)
-
-pub no_name : (F : List ℕ) (name : ℕ) → name ≡ 0 → Left F name 1
-no_name F name e = (omega arith, λ z. rw e)
-
-module _ (F : List ℕ) (name : ℕ) (h : name ≡ 0 → ⊥) {s : List ℕ} (e : s ≡ string_at F (layout_of F) (name - 1)) where
-  pub empty_name : length s ≡ 0 → Left F name 1
-  empty_name q = (omega arith, λ z. rw (ne_eqb name 0 h, ← e) (by s q z))
-    where
-      by : (s : List ℕ) → length s ≡ 0 → (z : ℕ) → moved (name_delta s) z ≡ z + 1
-      by [] q z = refl
-      by (c ∷ s) q z = absurd (omega arith)
-
-  pub full_name : (length s ≡ 0 → ⊥) → Left F name 0
-  full_name q = (omega arith, λ z. rw (ne_eqb name 0 h, ← e) (by s q z))
-    where
-      by : (s : List ℕ) → (length s ≡ 0 → ⊥) → (z : ℕ) → moved (name_delta s) z ≡ z + 0
-      by [] q z = absurd (q refl)
-      by (c ∷ s) q z = refl

@@ -1,7 +1,8 @@
 #![tactic(auto)]
 
 // Steps that emit, but generate no part of the tree.
-ghost use Rattle.std.specs.Prelude.{◌≡◌, List, [], false, cond, not, ◌&&◌, ◌||◌, ℕ, ◌+◌, ◌-◌, ◌*◌, ◌%◌, ◌<◌, ◌≤◌, T, ltb, eqb, length};
+ghost use Rattle.std.specs.Prelude.{◌≡◌, List, [], IfSome, option_map, unwrap_or, false, cond, not, ◌&&◌, ◌||◌, ℕ, ◌+◌, ◌-◌, ◌*◌, ◌%◌, ◌<◌, ◌≤◌, T, ltb, eqb, length};
+ghost use Rattle.std.specs.Int.{from_bool};
 ghost use Rattle.pcode.specs.Pcode.{Value, moved, Integer, Float};
 ghost use Rattle.pcode.specs.declared.Op.TheVariants.{Play};
 ghost use Rattle.script_records.specs.Layout.{layout_of, string_at};
@@ -16,23 +17,23 @@ ghost use Rattle.lowering.specs.Statement as statement;
 ghost use Rattle.list_slice.specs.File.{names_string, text_in};
 ghost use Rattle.codegen_state.specs.Does.{Fine, Named, Does};
 ghost use Rattle.tree.specs.Trees.{rec_of, is_labelled, is_case, meant};
-ghost use Rattle.tree.specs.Within.{Within, constant_named, target_named, record_named, meanings_at, kid_at, list_at};
+ghost use Rattle.tree.specs.Within.{constant_named, target_named, record_named};
+ghost use Rattle.tree.specs.Handle.{file_of, meanings_of, kid_of, list_of};
 ghost use Rattle.access.specs.Accesses.{access_of};
 ghost use Rattle.rows.specs.Rows.{label_of, any_hoisted};
 ghost use Rattle.leaves.specs.Args.{Args, Unchanged};
 
 use access::{Access, for_identifier, get_and_set_value, get_value, set_value, small, stop};
-use builder::builder::{action, jump, push, store_register, to_word};
+use builder::builder::{action, jump, push, store_register};
 use codegen_state::CodeBuilder;
 use constants::push_string;
 use decode::constant;
 use hir::{Affix, ConstantKind, EnumeratorTarget, Record, StatementKind};
-use operators::shape::{Shape, shape_of};
-use pcode::{Op, PushValue};
-use rows::Target;
-use script_records::layout::{Layout, known_row, string};
-use script_records::part::{Part, last_tree};
-use tree::{Counts, Element, kind_at, node_at, rest_of};
+use operators::shape::Shape;
+use pcode::{Label, Op, PushValue};
+use script_records::kind::Kind;
+use script_records::layout::ScriptFile;
+use tree::{Counts, Element, Trees};
 
 // An assignment whose value is discarded, or wanted.
 pub fn assign_value(list: &mut [u32], b: CodeBuilder, discard: bool, access: Access) -> CodeBuilder
@@ -47,24 +48,23 @@ pub fn assign_value(list: &mut [u32], b: CodeBuilder, discard: bool, access: Acc
 
 // A constant as an expression: a literal needs no access.
 pub fn read_constant(
-    file: &[u8],
-    l: Layout,
+    script: &ScriptFile,
     list: &mut [u32],
     b: CodeBuilder,
     c: ConstantKind,
 ) -> CodeBuilder
     requires fine { Fine b list.old }
-    requires l_value { l ≡ layout_of file.now }
-    requires file_len_bound { length file.now ≤ 1048576 }
-    requires t { T (constant_named file.now c) }
-    requires named { Named file.now b list.old }
-    ensures { Does file.now (steps.◌>>=◌ (access.for_constant (constant_over (string_at file.now (layout_of file.now)) c)) access.get_value)
-        b list.old tt result list.new }
+    requires l_value { script.now.layout ≡ layout_of script.now.bytes.now }
+    requires file_len_bound { length script.now.bytes.now ≤ 1048576 }
+    requires t { T (constant_named script.now.bytes.now c) }
+    requires named { Named script.now.bytes.now b list.old }
+    ensures { let F = script.now.bytes.now in
+        Does F (steps.◌>>=◌ (access.for_constant (constant_over (string_at F (layout_of F)) c)) access.get_value) b list.old tt result list.new }
 {
     match c {
-        ConstantKind::String(s) => push_string(file, l, list, b, s),
+        ConstantKind::String(s) => push_string(script.bytes, script.layout, list, b, s),
         ConstantKind::Identifier(s) => {
-            let a = for_identifier(file, l, list, b, s);
+            let a = for_identifier(script.bytes, script.layout, list, b, s);
             let b1 = a.b;
             let access = a.access;
             get_value(list, b1, access)
@@ -78,85 +78,85 @@ pub fn read_constant(
 
 // A builder, and the trees that are still to be generated.
 #[derive(Clone, Copy)]
-pub struct Pushed {
+pub struct Pushed<'a> {
     pub b: CodeBuilder,
-    pub left: Part,
+    pub left: Trees<'a>,
 }
 
 // The arguments without the Voids among the last, which generate nothing.
-fn without_voids(file: &[u8], l: Layout, p: Part) -> Part
-    requires { Within file.now l p }
-    ensures { Unchanged file.now l p result }
+fn without_voids<'a>(t: &Trees<'a>) -> Trees<'a>
+    ensures script { result.script ≡ t.now.script }
+    ensures unchanged { Unchanged (file_of t.now) t.now.script.layout t.now.part result.part }
 {
-    let mut left = p;
-    while kind_at(file, l, left) == 48 {
-        let before = rest_of(file, l, left);
-        left = before;
+    let mut left = *t;
+    while left.kind() == Kind::Void as u32 {
+        left = left.rest();
     }
     left
 }
 
 // Arguments run from the last to the first: the constants among the last of them are pushed here, without a call for each expression.
-pub fn push_constants(file: &[u8], l: Layout, p: Part, list: &mut [u32], b: CodeBuilder) -> Pushed
+pub fn push_constants<'a>(t: &Trees<'a>, list: &mut [u32], b: CodeBuilder) -> Pushed<'a>
     requires fine { Fine b list.old }
-    requires within { Within file.now l p }
-    requires named { Named file.now b list.old }
-    ensures { Args file.now l list.old p b list.new result.left result.b }
+    requires named { Named (file_of t.now) b list.old }
+    ensures script { result.left.script ≡ t.now.script }
+    ensures args { Args (file_of t.now) t.now.script.layout list.old t.now.part b list.new result.left.part result.b }
 {
-    let mut rest = without_voids(file, l, p);
+    let mut left = without_voids(t);
     let mut cur = b;
-    while rest.n != 0 {
+    while !left.is_empty() {
         if cur.refused != 0 {
-            return Pushed { b: cur, left: rest };
+            return Pushed { b: cur, left };
         }
-        let t = last_tree(file, l, rest);
-        let row = t.row;
-        if row.kind != 32 {
-            return Pushed { b: cur, left: rest };
+        let tree = left.script.last_tree(left.part);
+        if tree.row.kind != Kind::Constant as u32 {
+            return Pushed { b: cur, left };
         }
-        let c = constant(row);
-        cur = read_constant(file, l, list, cur, c);
-        let before = t.before;
-        rest = without_voids(file, l, before);
+        let c = constant(tree.row);
+        cur = read_constant(&t.script, list, cur, c);
+        let before = Trees {
+            script: t.script,
+            part: tree.before,
+        };
+        left = without_voids(&before);
     }
-    Pushed { b: cur, left: rest }
+    Pushed { b: cur, left }
 }
 
 // Break and Continue without a label emit nothing.
-pub fn jump_to(list: &mut [u32], b: CodeBuilder, target: Target) -> CodeBuilder
+pub fn jump_to(list: &mut [u32], b: CodeBuilder, target: Option<Label>) -> CodeBuilder
     requires { Fine b list.old }
     ensures { (F : List ℕ) → Does F (statement.jump_to (label_of target)) b list.old tt result list.new }
 {
     match target {
-        Target::To(label) => jump(list, b, label),
-        Target::Nowhere => b,
+        Some(label) => jump(list, b, label),
+        None => b,
     }
 }
 
 // The variable or register of a loop over an object's names gets register 0.
 pub fn gen_target(
-    file: &[u8],
-    l: Layout,
+    script: &ScriptFile,
     list: &mut [u32],
     b: CodeBuilder,
     target: EnumeratorTarget,
 ) -> CodeBuilder
     requires fine { Fine b list.old }
-    requires l_value { l ≡ layout_of file.now }
-    requires file_len_bound { length file.now ≤ 1048576 }
-    requires t { T (target_named file.now target) }
-    requires named { Named file.now b list.old }
-    ensures { Does file.now (statement.gen_target (target_over (string_at file.now (layout_of file.now)) target))
-        b list.old tt result list.new }
+    requires l_value { script.now.layout ≡ layout_of script.now.bytes.now }
+    requires file_len_bound { length script.now.bytes.now ≤ 1048576 }
+    requires t { T (target_named script.now.bytes.now target) }
+    requires named { Named script.now.bytes.now b list.old }
+    ensures { let F = script.now.bytes.now in
+        Does F (statement.gen_target (target_over (string_at F (layout_of F)) target)) b list.old tt result list.new }
 {
     match target {
         EnumeratorTarget::Variable { name, declare } => {
             if declare {
-                let b1 = push_string(file, l, list, b, name);
+                let b1 = push_string(script.bytes, script.layout, list, b, name);
                 let b2 = push(list, b1, PushValue::Register(0));
                 return action(list, b2, Op::DefineLocal);
             }
-            let a = for_identifier(file, l, list, b, name);
+            let a = for_identifier(script.bytes, script.layout, list, b, name);
             let b1 = a.b;
             let access = a.access;
             let b2 = push(list, b1, PushValue::Register(0));
@@ -175,10 +175,10 @@ pub fn negate_integer(list: &mut [u32], b: CodeBuilder, n: i32) -> CodeBuilder
     requires { Fine b list.old }
     ensures { (F : List ℕ) → Does F (statement.negate_integer (unsigned n) (eqb (unsigned n) 0x8000_0000)) b list.old tt result list.new }
 {
-    if n == -2147483648 {
-        return stop(b, 7);
+    match n.checked_neg() {
+        Some(m) => push(list, b, PushValue::Integer(m)),
+        None => stop(b, 7),
     }
-    push(list, b, PushValue::Integer(-n))
 }
 
 // The sign is the highest bit.
@@ -186,38 +186,15 @@ pub fn negate_float(list: &mut [u32], b: CodeBuilder, low: u32, high: u32) -> Co
     requires { Fine b list.old }
     ensures { (F : List ℕ) → Does F (steps.push (Float ((low + 0x1_0000_0000 * high + 0x8000_0000_0000_0000) % 0x1_0000_0000_0000_0000))) b list.old tt result list.new }
 {
-    if high < 0x8000_0000 {
-        return push(list, b, PushValue::Float(low, high + 0x8000_0000));
-    }
-    push(list, b, PushValue::Float(low, high - 0x8000_0000))
+    let flipped = high.wrapping_add(0x8000_0000);
+    push(list, b, PushValue::Float(low, flipped))
 }
 
-// One less, wrapping.
-fn wrapping_less(n: i32) -> i32
-    ensures { unsigned result ≡ (unsigned n + 0xffff_ffff) % 0x1_0000_0000 }
-{
-    if n == -2147483648 {
-        return 2147483647;
-    }
-    n - 1
-}
-
-// A word in two's complement, its low 16 bits.
-fn low_half(n: i32) -> u32
-    ensures { result ≡ unsigned n % 65536 }
-{
-    to_word(n) % 65536
-}
-
-// A GotoFrame's number: 0 stays 0, any other is one less, wrapping, and of that the low 16 bits count.
+// A GotoFrame's number: 0 stays 0, any other is one less, and of that the low 16 bits count.
 pub fn frame_of(n: i32) -> u32
     ensures { result ≡ statement.frame (unsigned n) }
 {
-    if n == 0 {
-        return 0;
-    }
-    let less = wrapping_less(n);
-    low_half(less)
+    n.cast_unsigned().saturating_sub(1) % 65536
 }
 
 pub fn play_if(list: &mut [u32], b: CodeBuilder, play: bool) -> CodeBuilder
@@ -251,26 +228,14 @@ pub fn push_if(list: &mut [u32], b: CodeBuilder, cases: u32) -> CodeBuilder
     push(list, b, PushValue::Register(0))
 }
 
-pub fn bit_of(x: bool) -> i32
-    ensures { unsigned result ≡ statement.bit x }
-{
-    if x { 1 } else { 0 }
-}
-
-// An object field's key, a parameter's name; any other record has no name.
+// An object field's key, a parameter's name; any other record has no name, which the list writes as this reference.
 pub fn name_of(root: Record) -> u32
     ensures { (F : List ℕ) (i : ℕ) → length F ≤ 1048576 → T (record_named F i root) → (text_in F result ≡ (param (rec_of F root)).name) × T (names_string F result) }
 {
     match root {
         Record::ObjectField(key) => key,
-        Record::Parameter { name, register } => name,
-        Record::Statement(k) => 0xffff_ffff,
-        Record::Expr(k) => 0xffff_ffff,
-        Record::Absent => 0xffff_ffff,
-        Record::List(n) => 0xffff_ffff,
-        Record::Case => 0xffff_ffff,
-        Record::Default => 0xffff_ffff,
-        Record::Other => 0xffff_ffff,
+        Record::Parameter { name, .. } => name,
+        _ => 0xffff_ffff,
     }
 }
 
@@ -279,149 +244,91 @@ fn is_expr(root: Record) -> bool
     ensures { (F : List ℕ) (kids : Forest Meaning) → hoisted (rec_of F root) kids ≡ (result && is_named (shape_of (kid 0 kids).rec)) }
 {
     match root {
-        Record::Statement(kind) => match kind {
-            StatementKind::Expr => true,
-            StatementKind::Declare(name) => false,
-            StatementKind::Return => false,
-            StatementKind::Throw => false,
-            StatementKind::Block => false,
-            StatementKind::ForIn(c) => false,
-            StatementKind::While => false,
-            StatementKind::If => false,
-            StatementKind::Break => false,
-            StatementKind::Continue => false,
-            StatementKind::Switch => false,
-        },
-        Record::Expr(k) => false,
-        Record::Absent => false,
-        Record::List(n) => false,
-        Record::ObjectField(key) => false,
-        Record::Parameter { name, register } => false,
-        Record::Case => false,
-        Record::Default => false,
-        Record::Other => false,
+        Record::Statement(kind) => matches!(kind, StatementKind::Expr),
+        _ => false,
     }
 }
 
 // A named function expression that is a whole statement.
-fn is_named(file: &[u8], l: Layout, p: Part) -> bool
-    requires { Within file.now l p }
-    ensures { result ≡ hoisted (kid_at file.now p 0).rec (list_at file.now p 0) }
+fn is_named(t: &Trees) -> bool
+    ensures { result ≡ hoisted (kid_of t.now 0).rec (list_of t.now 0) }
 {
-    let t = node_at(file, l, p);
-    let root = t.root;
-    if !is_expr(root) {
+    let node = t.node();
+    if !is_expr(node.root) {
         return false;
     }
-    let kids = t.children;
-    let k = node_at(file, l, kids);
-    let inner = k.root;
-    let s = shape_of(inner);
-    match s {
-        Shape::NamedFunction => true,
-        Shape::Constant(c) => false,
-        Shape::Field => false,
-        Shape::Other => false,
-    }
+    let inner = node.children.node();
+    matches!(Shape::from(inner.root), Shape::NamedFunction)
 }
 
 // Whether a statement can be hoisted. Most can not, which their kind tells, and most of those that are expressions are no functions, which the kind
 // of the record before theirs tells.
-fn may_be_hoisted(file: &[u8], l: Layout, p: Part) -> bool
-    requires { Within file.now l p }
-    ensures { result ≡ false → false ≡ hoisted (kid_at file.now p 0).rec (list_at file.now p 0) }
+fn may_be_hoisted(t: &Trees) -> bool
+    ensures { result ≡ false → false ≡ hoisted (kid_of t.now 0).rec (list_of t.now 0) }
 {
-    if kind_at(file, l, p) != 3 {
+    if t.kind() != Kind::Expr as u32 {
         return false;
     }
-    if p.end < 2 {
+    if t.part.end < 2 {
         return false;
     }
-    let row = known_row(file, l, p.end - 2);
-    row.kind == 49
+    t.script.known_row(t.part.end - 2).kind == Kind::Function as u32
 }
 
-pub fn is_hoisted(file: &[u8], l: Layout, p: Part) -> bool
-    requires { Within file.now l p }
-    ensures { result ≡ hoisted (kid_at file.now p 0).rec (list_at file.now p 0) }
+pub fn is_hoisted(t: &Trees) -> bool
+    ensures { result ≡ hoisted (kid_of t.now 0).rec (list_of t.now 0) }
 {
-    if !may_be_hoisted(file, l, p) {
+    if !may_be_hoisted(t) {
         return false;
     }
-    is_named(file, l, p)
+    is_named(t)
 }
 
 // Whether some tree of a row is hoisted: most rows have none.
-pub fn has_hoisted(file: &[u8], l: Layout, p: Part) -> bool
-    requires { Within file.now l p }
-    ensures { result ≡ any_hoisted (meanings_at file.now p) }
+pub fn has_hoisted(row: &Trees) -> bool
+    ensures { result ≡ any_hoisted (meanings_of row.now) }
 {
-    let mut left = p;
-    while left.n != 0 {
-        if may_be_hoisted(file, l, left) {
-            if is_named(file, l, left) {
-                return true;
-            }
+    for tree in *row {
+        if is_hoisted(&tree) {
+            return true;
         }
-        let before = rest_of(file, l, left);
-        left = before;
     }
     false
 }
 
-pub fn is_labelled(e: Element) -> u32
-    ensures { result ≡ is_labelled (meant e) }
+pub fn is_labelled(e: Element) -> bool
+    ensures { from_bool result ≡ is_labelled (meant e) }
 {
-    match e {
-        Element::Case => 1,
-        Element::Default => 1,
-        Element::Statement => 0,
-    }
+    matches!(e, Element::Case | Element::Default)
 }
 
-pub fn is_case(e: Element) -> u32
-    ensures { result ≡ is_case (meant e) }
+pub fn is_case(e: Element) -> bool
+    ensures { from_bool result ≡ is_case (meant e) }
 {
-    match e {
-        Element::Case => 1,
-        Element::Default => 0,
-        Element::Statement => 0,
-    }
+    matches!(e, Element::Case)
 }
 
-// 1 if a function leaves a value: it has no name, or an empty one.
-pub fn leaves_value(file: &[u8], l: Layout, name: u32) -> u32
-    requires { l ≡ layout_of file.now }
-    ensures { (result ≤ 1) × ((z : ℕ) → moved (name_delta (cond (eqb name 0) [] (string_at file.now (layout_of file.now) (name - 1)))) z ≡ z + result) }
+// A function leaves a value if it has no name, or an empty one.
+pub fn leaves_value(script: &ScriptFile, name: u32) -> bool
+    requires { script.now.layout ≡ layout_of script.now.bytes.now }
+    ensures { let F = script.now.bytes.now in
+        (z : ℕ) → moved (name_delta (cond (eqb name 0) [] (string_at F (layout_of F) (name - 1)))) z ≡ z + from_bool result }
 {
     if name == 0 {
-        return 1;
+        return true;
     }
-    let s = string(file, l, (name - 1) as usize);
-    if s.len() == 0 {
-        return 1;
-    }
-    0
+    script.string((name - 1) as usize).is_empty()
 }
 
 // The label of a switch's last Default, else its end.
 pub fn default_label(end: u32, first: u32, n: Counts) -> u32
     requires labels_bound { first + n.labels < 0x1_0000_0000 }
-    requires from_default_bound { n.from_default ≤ n.labels }
-    ensures { result ≡ cond (eqb n.from_default 0) end (first + (n.labels - n.from_default)) }
+    requires from_default_bound { IfSome n.from_default (λ k. k ≤ n.labels) }
+    ensures { result ≡ unwrap_or (option_map (λ k. first + (n.labels - k)) n.from_default) end }
 {
-    if n.from_default == 0 {
-        return end;
-    }
-    first + (n.labels - n.from_default)
-}
-
-fn is_prefix(affix: Affix) -> bool
-    ensures { result ≡ statement.is_prefix affix }
-{
-    match affix {
-        Affix::Prefix => true,
-        Affix::Postfix => false,
+    match n.from_default {
+        Some(k) => first + (n.labels - k),
+        None => end,
     }
 }
 
@@ -429,19 +336,13 @@ fn is_prefix(affix: Affix) -> bool
 pub fn keeps_old(affix: Affix, discard: bool) -> bool
     ensures { result ≡ (not discard && not (statement.is_prefix affix)) }
 {
-    if discard {
-        return false;
-    }
-    !is_prefix(affix)
+    !discard && matches!(affix, Affix::Postfix)
 }
 
 pub fn leaves_none(affix: Affix, discard: bool) -> bool
     ensures { result ≡ (discard || not (statement.is_prefix affix)) }
 {
-    if discard {
-        return true;
-    }
-    !is_prefix(affix)
+    discard || matches!(affix, Affix::Postfix)
 }
 
 pub fn word_of(n: usize) -> u32

@@ -1,109 +1,92 @@
-// The words of a list slice (docs/LISTS.md). What does not lie in the slice is 0.
-ghost use Rattle.std.specs.Prelude.{◌≤◌};
+// The words of a list slice (docs/LISTS.md).
+use pcode::PushValue;
 
-const LIMIT: usize = 1024;
-
-const LIST_ENDS: usize = 13312;
-
-const POOL: usize = 14336;
-
-const POOL_END: usize = 16384;
-
+// The areas of a list slice; of what does not lie in it, none.
 #[derive(Clone, Copy)]
-pub struct Entry {
-    pub code: u32,
-    pub first: u32,
-    pub second: u32,
+pub struct Lists<'a> {
+    entries: &'a [[u32; 3]],
+    ends: &'a [u32],
+    pub pool: &'a [u32],
 }
 
-fn word_at(list: &[u32], i: usize) -> u32 {
-    if i < list.len() {
-        return list[i];
-    }
-    0
+// What an entry's three words say.
+#[derive(Clone, Copy)]
+pub enum Entry {
+    Action { code: u32, operand: u32 },
+    Function { list: u32, reference: u32 },
+    Mark(u32),
+    Push(Option<PushValue>),
+    Later(Option<PushValue>),
 }
 
-pub fn entry_at(list: &[u32], i: usize) -> Entry {
-    if list.len() / 3 <= i {
-        return Entry {
-            code: 0,
-            first: 0,
-            second: 0,
-        };
-    }
-    let at = 3 * i;
-    Entry {
-        code: list[at],
-        first: list[at + 1],
-        second: list[at + 2],
+fn value_of(kind: u32, first: u32, second: u32) -> Option<PushValue> {
+    match kind {
+        0 => Some(PushValue::String(first)),
+        2 => Some(PushValue::Null),
+        3 => Some(PushValue::Undefined),
+        4 => Some(PushValue::Register(u8::try_from(first).ok()?)),
+        5 => Some(PushValue::Boolean(first != 0)),
+        6 => Some(PushValue::Float(first, second)),
+        7 => Some(PushValue::Integer(first.cast_signed())),
+        8 => Some(PushValue::Constant(first)),
+        _ => None,
     }
 }
 
-// The reference of the pool's string i.
-pub fn pool_word(list: &[u32], i: usize) -> u32 {
-    if POOL_END - POOL <= i {
-        return 0;
-    }
-    word_at(list, POOL + i)
-}
-
-// The entry after the k-th list that finished, from 0.
-pub fn end_of(list: &[u32], k: usize) -> usize {
-    if LIMIT <= k {
-        return 0;
-    }
-    word_at(list, LIST_ENDS + k) as usize
-}
-
-pub fn start_of(list: &[u32], k: usize) -> usize {
-    if k == 0 {
-        return 0;
-    }
-    end_of(list, k - 1)
-}
-
-// Which list the top list is, in the order in which they finish: the last whose end is not 0.
-pub fn top_list(list: &[u32]) -> usize
-    ensures { result ≤ 1023 }
-{
-    let mut k: usize = LIMIT - 1;
-    while 0 < k {
-        if end_of(list, k) != 0 {
-            return k;
+impl From<&[u32; 3]> for Entry {
+    fn from(words: &[u32; 3]) -> Entry {
+        let [code, first, second] = *words;
+        match code {
+            0..0x100 => Entry::Action {
+                code,
+                operand: first,
+            },
+            0x100 => Entry::Function {
+                list: first,
+                reference: second,
+            },
+            0x101 => Entry::Mark(first),
+            0x120..=0x128 => Entry::Later(value_of(code % 16, first, second)),
+            _ => Entry::Push(value_of(code % 16, first, second)),
         }
-        k -= 1;
     }
-    0
 }
 
-pub fn is_later_value(code: u32) -> bool {
-    if code < 0x120 {
-        return false;
+impl Entry {
+    pub fn is_later(self) -> bool {
+        matches!(self, Entry::Later(_))
     }
-    code <= 0x128
+
+    // An action begins with this entry.
+    pub fn begins(self) -> bool {
+        !matches!(self, Entry::Mark(_) | Entry::Later(_))
+    }
 }
 
-// 1 if an action begins with this entry, 0 for a mark or a later value of a Push.
-pub fn begun(code: u32) -> usize
-    ensures { result ≤ 1 }
-{
-    if code == 0x101 {
-        return 0;
+impl<'a> From<&'a [u32]> for Lists<'a> {
+    fn from(words: &'a [u32]) -> Lists<'a> {
+        Lists {
+            entries: words.get(..12288).unwrap_or(&[]).as_chunks().0,
+            ends: words.get(13312..14336).unwrap_or(&[]),
+            pool: words.get(14336..16384).unwrap_or(&[]),
+        }
     }
-    if is_later_value(code) {
-        return 0;
-    }
-    1
 }
 
-// How many actions the entries from `low` to before `high` have.
-pub fn count_actions(list: &[u32], low: usize, high: usize) -> usize {
-    let mut n: usize = 0;
-    let mut i = low;
-    while i < high {
-        let e = entry_at(list, i);
-        n += begun(e.code);
-        i += 1;
+impl<'a> Lists<'a> {
+    // The entry after the k-th list that finished, from 0.
+    fn end(self, k: usize) -> usize {
+        self.ends.get(k).copied().unwrap_or(0) as usize
     }
-    n
+
+    // The entries of the k-th list that finished, its last entry first.
+    pub fn entries(self, k: usize) -> &'a [[u32; 3]] {
+        let start = if k == 0 { 0 } else { self.end(k - 1) };
+        self.entries.get(start..self.end(k)).unwrap_or(&[])
+    }
+
+    // Which list the top list is, in the order in which they finish: the last whose end is not 0.
+    pub fn top(self) -> usize {
+        self.ends.iter().rposition(|end| *end != 0).unwrap_or(0)
+    }
 }

@@ -1,129 +1,102 @@
-// The actions' names, as in the Rust's `Action`.
-use crate::source::wide;
-use crate::text::put;
-use std::io;
-use std::io::Write;
+// The actions' names, as in the Rust's `Action`, and their operands. A Push and a function have no code of their own in the list slice.
+#[derive(Clone, Copy)]
+pub enum Operand {
+    None,
+    Number,
+    Pool,
+    String,
+    Target,
+    Play,
+}
 
-// Each row is an action's code and its name, filled up with zeros. A Push and a function have no code of their own in the list slice.
-const NAMES: [[u8; 16]; 81] = [
-    *b"\x04NextFrame\0\0\0\0\0\0",
-    *b"\x05PrevFrame\0\0\0\0\0\0",
-    *b"\x06Play\0\0\0\0\0\0\0\0\0\0\0",
-    *b"\x07Stop\0\0\0\0\0\0\0\0\0\0\0",
-    *b"\x08ToggleQuality\0\0",
-    *b"\x09StopSounds\0\0\0\0\0",
-    *b"\x0bSubtract\0\0\0\0\0\0\0",
-    *b"\x0cMultiply\0\0\0\0\0\0\0",
-    *b"\x0dDivide\0\0\0\0\0\0\0\0\0",
-    *b"\x10And\0\0\0\0\0\0\0\0\0\0\0\0",
-    *b"\x11Or\0\0\0\0\0\0\0\0\0\0\0\0\0",
-    *b"\x12Not\0\0\0\0\0\0\0\0\0\0\0\0",
-    *b"\x13StringEquals\0\0\0",
-    *b"\x14StringLength\0\0\0",
-    *b"\x15StringExtract\0\0",
-    *b"\x17Pop\0\0\0\0\0\0\0\0\0\0\0\0",
-    *b"\x18ToInteger\0\0\0\0\0\0",
-    *b"\x1cGetVariable\0\0\0\0",
-    *b"\x1dSetVariable\0\0\0\0",
-    *b"\x21StringAdd\0\0\0\0\0\0",
-    *b"\x22GetProperty\0\0\0\0",
-    *b"\x23SetProperty\0\0\0\0",
-    *b"\x24CloneSprite\0\0\0\0",
-    *b"\x25RemoveSprite\0\0\0",
-    *b"\x26Trace\0\0\0\0\0\0\0\0\0\0",
-    *b"\x27StartDrag\0\0\0\0\0\0",
-    *b"\x28EndDrag\0\0\0\0\0\0\0\0",
-    *b"\x29StringLess\0\0\0\0\0",
-    *b"\x2aThrow\0\0\0\0\0\0\0\0\0\0",
-    *b"\x2bCastOp\0\0\0\0\0\0\0\0\0",
-    *b"\x30RandomNumber\0\0\0",
-    *b"\x31MBStringLength\0",
-    *b"\x32CharToAscii\0\0\0\0",
-    *b"\x33AsciiToChar\0\0\0\0",
-    *b"\x34GetTime\0\0\0\0\0\0\0\0",
-    *b"\x35MBStringExtract",
-    *b"\x36MBCharToAscii\0\0",
-    *b"\x37MBAsciiToChar\0\0",
-    *b"\x3aDelete\0\0\0\0\0\0\0\0\0",
-    *b"\x3bDelete2\0\0\0\0\0\0\0\0",
-    *b"\x3cDefineLocal\0\0\0\0",
-    *b"\x3dCallFunction\0\0\0",
-    *b"\x3eReturn\0\0\0\0\0\0\0\0\0",
-    *b"\x3fModulo\0\0\0\0\0\0\0\0\0",
-    *b"\x40NewObject\0\0\0\0\0\0",
-    *b"\x41DefineLocal2\0\0\0",
-    *b"\x42InitArray\0\0\0\0\0\0",
-    *b"\x43InitObject\0\0\0\0\0",
-    *b"\x44TypeOf\0\0\0\0\0\0\0\0\0",
-    *b"\x45TargetPath\0\0\0\0\0",
-    *b"\x47Add2\0\0\0\0\0\0\0\0\0\0\0",
-    *b"\x48Less2\0\0\0\0\0\0\0\0\0\0",
-    *b"\x49Equals2\0\0\0\0\0\0\0\0",
-    *b"\x4aToNumber\0\0\0\0\0\0\0",
-    *b"\x4bToString\0\0\0\0\0\0\0",
-    *b"\x4cPushDuplicate\0\0",
-    *b"\x4eGetMember\0\0\0\0\0\0",
-    *b"\x4fSetMember\0\0\0\0\0\0",
-    *b"\x50Increment\0\0\0\0\0\0",
-    *b"\x51Decrement\0\0\0\0\0\0",
-    *b"\x52CallMethod\0\0\0\0\0",
-    *b"\x53NewMethod\0\0\0\0\0\0",
-    *b"\x54InstanceOf\0\0\0\0\0",
-    *b"\x55Enumerate2\0\0\0\0\0",
-    *b"\x60BitAnd\0\0\0\0\0\0\0\0\0",
-    *b"\x61BitOr\0\0\0\0\0\0\0\0\0\0",
-    *b"\x62BitXor\0\0\0\0\0\0\0\0\0",
-    *b"\x63BitLShift\0\0\0\0\0\0",
-    *b"\x64BitRShift\0\0\0\0\0\0",
-    *b"\x65BitURShift\0\0\0\0\0",
-    *b"\x66StrictEquals\0\0\0",
-    *b"\x67Greater\0\0\0\0\0\0\0\0",
-    *b"\x68StringGreater\0\0",
-    *b"\x81GotoFrame\0\0\0\0\0\0",
-    *b"\x87StoreRegister\0\0",
-    *b"\x88ConstantPool\0\0\0",
-    *b"\x8cGotoLabel\0\0\0\0\0\0",
-    *b"\x99Jump\0\0\0\0\0\0\0\0\0\0\0",
-    *b"\x9dIf\0\0\0\0\0\0\0\0\0\0\0\0\0",
-    *b"\x9eCall\0\0\0\0\0\0\0\0\0\0\0",
-    *b"\x9fGotoFrame2\0\0\0\0\0",
+static ACTIONS: [(u32, &str, Operand); 81] = [
+    (0x04, "NextFrame", Operand::None),
+    (0x05, "PrevFrame", Operand::None),
+    (0x06, "Play", Operand::None),
+    (0x07, "Stop", Operand::None),
+    (0x08, "ToggleQuality", Operand::None),
+    (0x09, "StopSounds", Operand::None),
+    (0x0b, "Subtract", Operand::None),
+    (0x0c, "Multiply", Operand::None),
+    (0x0d, "Divide", Operand::None),
+    (0x10, "And", Operand::None),
+    (0x11, "Or", Operand::None),
+    (0x12, "Not", Operand::None),
+    (0x13, "StringEquals", Operand::None),
+    (0x14, "StringLength", Operand::None),
+    (0x15, "StringExtract", Operand::None),
+    (0x17, "Pop", Operand::None),
+    (0x18, "ToInteger", Operand::None),
+    (0x1c, "GetVariable", Operand::None),
+    (0x1d, "SetVariable", Operand::None),
+    (0x21, "StringAdd", Operand::None),
+    (0x22, "GetProperty", Operand::None),
+    (0x23, "SetProperty", Operand::None),
+    (0x24, "CloneSprite", Operand::None),
+    (0x25, "RemoveSprite", Operand::None),
+    (0x26, "Trace", Operand::None),
+    (0x27, "StartDrag", Operand::None),
+    (0x28, "EndDrag", Operand::None),
+    (0x29, "StringLess", Operand::None),
+    (0x2a, "Throw", Operand::None),
+    (0x2b, "CastOp", Operand::None),
+    (0x30, "RandomNumber", Operand::None),
+    (0x31, "MBStringLength", Operand::None),
+    (0x32, "CharToAscii", Operand::None),
+    (0x33, "AsciiToChar", Operand::None),
+    (0x34, "GetTime", Operand::None),
+    (0x35, "MBStringExtract", Operand::None),
+    (0x36, "MBCharToAscii", Operand::None),
+    (0x37, "MBAsciiToChar", Operand::None),
+    (0x3a, "Delete", Operand::None),
+    (0x3b, "Delete2", Operand::None),
+    (0x3c, "DefineLocal", Operand::None),
+    (0x3d, "CallFunction", Operand::None),
+    (0x3e, "Return", Operand::None),
+    (0x3f, "Modulo", Operand::None),
+    (0x40, "NewObject", Operand::None),
+    (0x41, "DefineLocal2", Operand::None),
+    (0x42, "InitArray", Operand::None),
+    (0x43, "InitObject", Operand::None),
+    (0x44, "TypeOf", Operand::None),
+    (0x45, "TargetPath", Operand::None),
+    (0x47, "Add2", Operand::None),
+    (0x48, "Less2", Operand::None),
+    (0x49, "Equals2", Operand::None),
+    (0x4a, "ToNumber", Operand::None),
+    (0x4b, "ToString", Operand::None),
+    (0x4c, "PushDuplicate", Operand::None),
+    (0x4e, "GetMember", Operand::None),
+    (0x4f, "SetMember", Operand::None),
+    (0x50, "Increment", Operand::None),
+    (0x51, "Decrement", Operand::None),
+    (0x52, "CallMethod", Operand::None),
+    (0x53, "NewMethod", Operand::None),
+    (0x54, "InstanceOf", Operand::None),
+    (0x55, "Enumerate2", Operand::None),
+    (0x60, "BitAnd", Operand::None),
+    (0x61, "BitOr", Operand::None),
+    (0x62, "BitXor", Operand::None),
+    (0x63, "BitLShift", Operand::None),
+    (0x64, "BitRShift", Operand::None),
+    (0x65, "BitURShift", Operand::None),
+    (0x66, "StrictEquals", Operand::None),
+    (0x67, "Greater", Operand::None),
+    (0x68, "StringGreater", Operand::None),
+    (0x81, "GotoFrame", Operand::Number),
+    (0x87, "StoreRegister", Operand::Number),
+    (0x88, "ConstantPool", Operand::Pool),
+    (0x8c, "GotoLabel", Operand::String),
+    (0x99, "Jump", Operand::Target),
+    (0x9d, "If", Operand::Target),
+    (0x9e, "Call", Operand::None),
+    (0x9f, "GotoFrame2", Operand::Play),
 ];
 
-const COUNT: usize = 81;
-
-// Byte k of row i.
-fn letter(i: usize, k: usize) -> u8 {
-    if COUNT <= i {
-        return 0;
+// The name and the operands of an action with this code; of another, nothing.
+pub fn action_of(code: u32) -> (&'static str, Operand) {
+    match ACTIONS.iter().find(|row| row.0 == code) {
+        Some((_, name, operand)) => (*name, *operand),
+        None => ("", Operand::None),
     }
-    if 16 <= k {
-        return 0;
-    }
-    NAMES[i][k]
-}
-
-// The row of a code, or their count if it has none.
-fn row_of(code: u32) -> usize {
-    let mut i = 0;
-    while i < COUNT {
-        if wide(letter(i, 0)) == code {
-            return i;
-        }
-        i += 1;
-    }
-    i
-}
-
-pub fn put_name<W: Write>(out: &mut W, code: u32) -> io::Result<()> {
-    let row = row_of(code);
-    let mut k = 1;
-    while k < 16 {
-        let c = letter(row, k);
-        if c == 0 {
-            return Ok(());
-        }
-        put(out, c)?;
-        k += 1;
-    }
-    Ok(())
 }

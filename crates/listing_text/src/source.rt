@@ -1,242 +1,227 @@
 // What the references of a list slice refer to: strings and functions of a script file, or of the action bytes that were read.
-ghost use Rattle.std.specs.Prelude.{◌≤◌};
+use crate::text::Text;
+use decode::function_of;
+use script_records::layout::{Row, ScriptFile};
+use script_records::part::Part;
+use std::io;
+use std::io::Write;
+use text_lines::split_once;
 
-use crate::entries::pool_word;
-use decode::{Function, Name, function_of};
-use script_records::layout::{Layout, Row, row_at};
-use script_records::part::{Part, last_tree};
-use text_lines::find;
+const DEFINE_FUNCTION2: u8 = 0x8e;
 
-// Read lists refer to action bytes, and compiled ones to a script file of this layout.
+// A function's name, and its registers if it has some.
 #[derive(Clone, Copy)]
-pub struct Source {
-    pub read: bool,
-    pub layout: Layout,
+pub struct Header<'a> {
+    pub name: &'a [u8],
+    pub registers: Option<Registers>,
 }
 
-// A string's or a parameter's reference, and where the one after it is found.
 #[derive(Clone, Copy)]
-pub struct Item {
-    pub name: usize,
-    pub register: u32,
-    pub next: usize,
+pub struct Registers {
+    pub count: u8,
+    pub marks: [bool; 9],
 }
 
-// So many items from here on.
+pub trait Source {
+    // The string of a reference.
+    fn string(&self, reference: u32) -> &[u8];
+
+    fn header(&self, reference: u32) -> Header<'_>;
+
+    // A function's parameters, each with its register if the function has some.
+    fn put_parameters<W: Write>(
+        &self,
+        reference: u32,
+        with_registers: bool,
+        out: &mut W,
+    ) -> io::Result<()>;
+
+    // The strings of a pool, by its words or by the first operand of its entry.
+    fn put_pool<W: Write>(&self, words: &[u32], first: u32, out: &mut W) -> io::Result<()>;
+
+    // Where a branch leads.
+    fn put_target<W: Write>(&self, target: u32, out: &mut W) -> io::Result<()>;
+}
+
+// Action bytes that were read. A reference is the place of a string or of a record.
 #[derive(Clone, Copy)]
-pub struct Items {
-    pub at: usize,
-    pub count: usize,
+pub struct Actions<'a>(pub &'a [u8]);
+
+// What is left of some bytes. Behind their end there are zeros.
+#[derive(Drop)]
+struct Record<'a>(&'a [u8]);
+
+fn registers_of(row: Row) -> Option<Registers> {
+    let function = function_of(row);
+    if function.register_count <= 1 {
+        return None;
+    }
+    let marks = function.marks;
+    Some(Registers {
+        count: function.register_count,
+        marks,
+    })
 }
 
-// n places on, but not beyond the bytes.
-fn skip(bytes: &[u8], at: usize, n: usize) -> usize {
-    if bytes.len() < n {
-        return bytes.len();
-    }
-    if bytes.len() - n < at {
-        return bytes.len();
-    }
-    at + n
-}
-
-pub fn wide(x: u8) -> u32
-    ensures { result ≤ 255 }
-{
-    x as u32
-}
-
-fn byte_at(bytes: &[u8], at: usize) -> u32
-    ensures { result ≤ 255 }
-{
-    if at < bytes.len() {
-        return wide(bytes[at]);
-    }
-    0
-}
-
-// Two bytes, least significant first.
-fn short_at(bytes: &[u8], at: usize) -> u32 {
-    let low = byte_at(bytes, at);
-    let high = byte_at(bytes, skip(bytes, at, 1));
-    low + 256 * high
-}
-
-// The string that begins here and ends before a zero byte.
-fn ended(bytes: &[u8], at: usize) -> &[u8] {
-    if bytes.len() < at {
-        return &bytes[0..0];
-    }
-    let end = find(bytes, at, 0);
-    &bytes[at..end]
-}
-
-// The place after that zero byte.
-fn after_string(bytes: &[u8], at: usize) -> usize {
-    if bytes.len() < at {
-        return bytes.len();
-    }
-    let end = find(bytes, at, 0);
-    skip(bytes, end, 1)
-}
-
-pub fn string_of(bytes: &[u8], s: Source, reference: usize) -> &[u8] {
-    if s.read {
-        return ended(bytes, reference);
-    }
-    if reference == 0xffff_ffff {
-        return &bytes[0..0];
-    }
-    script_records::layout::string(bytes, s.layout, reference)
-}
-
-// A function's record of action bytes, as that of a script file with these registers and marks.
-fn read_function(bytes: &[u8], at: usize) -> Function {
-    let counts = after_string(bytes, skip(bytes, at, 3));
-    let mut row = Row {
-        kind: 49,
-        a: 0,
-        b: 0,
-        c: 0,
-        size: 0,
-    };
-    if byte_at(bytes, at) == 0x8e {
-        row.b = byte_at(bytes, skip(bytes, counts, 2));
-        row.c = short_at(bytes, skip(bytes, counts, 3));
-    }
-    function_of(row)
-}
-
-pub fn function_at(bytes: &[u8], s: Source, reference: usize) -> Function {
-    if s.read {
-        return read_function(bytes, reference);
-    }
-    function_of(row_at(bytes, s.layout, reference))
-}
-
-pub fn function_name(bytes: &[u8], s: Source, f: Function, reference: usize) -> &[u8] {
-    if s.read {
-        return ended(bytes, skip(bytes, reference, 3));
-    }
-    let name = f.name;
-    match name {
-        Name::Index(i) => string_of(bytes, s, i as usize),
-        Name::None => &bytes[0..0],
+fn put_parameter<W: Write>(name: &[u8], register: Option<u32>, out: &mut W) -> io::Result<()> {
+    write!(out, " {}", Text(name))?;
+    match register {
+        Some(register) => write!(out, " {register}"),
+        None => Ok(()),
     }
 }
 
-// The parameters are the records of the list before the body.
-fn compiled_parameters(file: &[u8], l: Layout, reference: usize) -> Items {
-    let row = row_at(file, l, reference);
-    let inner = if row.size == 0 { 0 } else { row.size - 1 };
-    let body = last_tree(
-        file,
-        l,
-        Part {
-            end: reference,
-            n: inner as usize,
-        },
-    );
-    let before = body.before;
-    let list = last_tree(file, l, before);
-    let children = list.children;
-    let end = children.end;
-    let n = children.n;
-    if end < n {
-        return Items { at: 0, count: 0 };
+// The rows of a function's parameters: the list before its body.
+fn parameter_rows(script: &ScriptFile, reference: usize) -> Part {
+    let row = script.row_at(reference);
+    let body = script.last_tree(Part {
+        end: reference,
+        n: row.size.saturating_sub(1) as usize,
+    });
+    script.last_tree(body.before).children
+}
+
+impl Source for ScriptFile<'_> {
+    // 0xffff_ffff is the empty string that comes from no string of the file.
+    fn string(&self, reference: u32) -> &[u8] {
+        if reference == 0xffff_ffff {
+            return &[];
+        }
+        ScriptFile::string(self, reference as usize)
     }
-    Items {
-        at: end - n,
-        count: n,
+
+    fn header(&self, reference: u32) -> Header<'_> {
+        let row = self.row_at(reference as usize);
+        let name = function_of(row).name;
+        Header {
+            name: name.map_or(&[], |i| Source::string(self, i)),
+            registers: registers_of(row),
+        }
+    }
+
+    // A record holds the register plus 1, or 0 for none.
+    fn put_parameters<W: Write>(
+        &self,
+        reference: u32,
+        with_registers: bool,
+        out: &mut W,
+    ) -> io::Result<()> {
+        let rows = parameter_rows(self, reference as usize);
+        let start = rows.end.checked_sub(rows.n).unwrap_or(rows.end);
+        for i in start..rows.end {
+            let row = self.row_at(i);
+            let register = with_registers.then_some(row.b.saturating_sub(1));
+            put_parameter(Source::string(self, row.a), register, out)?;
+        }
+        Ok(())
+    }
+
+    // The words are references to the strings, as many as the operand says.
+    fn put_pool<W: Write>(&self, words: &[u32], first: u32, out: &mut W) -> io::Result<()> {
+        for word in words.iter().take(first as usize) {
+            write!(out, " {}", Text(Source::string(self, *word)))?;
+        }
+        Ok(())
+    }
+
+    fn put_target<W: Write>(&self, target: u32, out: &mut W) -> io::Result<()> {
+        write!(out, " loc{target:04x}")
     }
 }
 
-fn read_parameters(bytes: &[u8], reference: usize) -> Items {
-    let counts = after_string(bytes, skip(bytes, reference, 3));
-    let count = short_at(bytes, counts) as usize;
-    let n = if byte_at(bytes, reference) == 0x8e {
-        5
-    } else {
-        2
-    };
-    Items {
-        at: skip(bytes, counts, n),
-        count,
+impl<'a> Record<'a> {
+    fn byte(&mut self) -> u8 {
+        match self.0 {
+            [byte, rest @ ..] => {
+                self.0 = rest;
+                *byte
+            }
+            [] => 0,
+        }
+    }
+
+    // Two bytes, least significant first.
+    fn short(&mut self) -> u16 {
+        u16::from_le_bytes([self.byte(), self.byte()])
+    }
+
+    // The string that ends before the next zero byte.
+    fn string(&mut self) -> &'a [u8] {
+        let (string, rest) = split_once(self.0, 0).unwrap_or((self.0, &[]));
+        self.0 = rest;
+        string
     }
 }
 
-pub fn parameters_of(bytes: &[u8], s: Source, reference: usize) -> Items {
-    if s.read {
-        return read_parameters(bytes, reference);
-    }
-    compiled_parameters(bytes, s.layout, reference)
-}
-
-// A record holds the register plus 1, or 0 for none.
-fn compiled_parameter(file: &[u8], l: Layout, at: usize) -> Item {
-    let row = row_at(file, l, at);
-    let register = if row.b == 0 { 0 } else { row.b - 1 };
-    Item {
-        name: row.a as usize,
-        register,
-        next: next(at),
+impl<'a> Actions<'a> {
+    fn record(&self, at: u32) -> Record<'a> {
+        Record(self.0.get(at as usize..).unwrap_or(&[]))
     }
 }
 
-fn read_parameter(bytes: &[u8], at: usize, with_register: bool) -> Item {
-    if !with_register {
-        return Item {
-            name: at,
-            register: 0,
-            next: after_string(bytes, at),
+impl Source for Actions<'_> {
+    fn string(&self, reference: u32) -> &[u8] {
+        self.record(reference).string()
+    }
+
+    // The registers and the marks stand as those of a script file's record.
+    fn header(&self, reference: u32) -> Header<'_> {
+        let mut record = self.record(reference);
+        let code = record.byte();
+        record.short();
+        let name = record.string();
+        record.short();
+        let mut row = Row {
+            kind: 49,
+            a: 0,
+            b: 0,
+            c: 0,
+            size: 0,
         };
+        if code == DEFINE_FUNCTION2 {
+            row.b = u32::from(record.byte());
+            row.c = u32::from(record.short());
+        }
+        Header {
+            name,
+            registers: registers_of(row),
+        }
     }
-    let name = skip(bytes, at, 1);
-    Item {
-        name,
-        register: byte_at(bytes, at),
-        next: after_string(bytes, name),
-    }
-}
 
-pub fn parameter_at(bytes: &[u8], s: Source, at: usize, with_register: bool) -> Item {
-    if s.read {
-        return read_parameter(bytes, at, with_register);
+    fn put_parameters<W: Write>(
+        &self,
+        reference: u32,
+        with_registers: bool,
+        out: &mut W,
+    ) -> io::Result<()> {
+        let mut record = self.record(reference);
+        let code = record.byte();
+        record.short();
+        record.string();
+        let count = record.short();
+        if code == DEFINE_FUNCTION2 {
+            record.byte();
+            record.short();
+        }
+        for _ in 0..count {
+            let register = with_registers.then(|| u32::from(record.byte()));
+            put_parameter(record.string(), register, out)?;
+        }
+        Ok(())
     }
-    compiled_parameter(bytes, s.layout, at)
-}
 
-// One more, as far as numbers go.
-fn next(at: usize) -> usize {
-    if at < 0xffff_ffff { at + 1 } else { at }
-}
+    // The operand is the place of the pool's record.
+    fn put_pool<W: Write>(&self, _words: &[u32], first: u32, out: &mut W) -> io::Result<()> {
+        let mut record = self.record(first);
+        record.byte();
+        record.short();
+        for _ in 0..record.short() {
+            write!(out, " {}", Text(record.string()))?;
+        }
+        Ok(())
+    }
 
-// The pool's strings. `first` is the first operand of its entry.
-pub fn pool_of(bytes: &[u8], s: Source, first: usize) -> Items {
-    if s.read {
-        return Items {
-            at: skip(bytes, first, 5),
-            count: short_at(bytes, skip(bytes, first, 3)) as usize,
-        };
-    }
-    Items {
-        at: 0,
-        count: first,
-    }
-}
-
-// A compiled list's references to its strings are in the pool words.
-pub fn pooled_at(list: &[u32], bytes: &[u8], s: Source, at: usize) -> Item {
-    if s.read {
-        return Item {
-            name: at,
-            register: 0,
-            next: after_string(bytes, at),
-        };
-    }
-    Item {
-        name: pool_word(list, at) as usize,
-        register: 0,
-        next: next(at),
+    fn put_target<W: Write>(&self, target: u32, out: &mut W) -> io::Result<()> {
+        write!(out, " {target}")
     }
 }

@@ -1,47 +1,35 @@
-// Text on its way to a writer.
-use std::io;
+// What stands in a listing, as text.
+use refusal::Refusal;
 use std::io::Write;
-
-pub fn put<W: Write>(out: &mut W, c: u8) -> io::Result<()> {
-    out.write_all(&[c])
-}
-
-pub fn put_text<W: Write>(out: &mut W, text: &[u8]) -> io::Result<()> {
-    out.write_all(text)
-}
+use std::{fmt, io};
 
 // Two hex digits for each byte.
-pub fn put_bytes<W: Write>(out: &mut W, bytes: &[u8]) -> io::Result<()> {
-    for b in bytes {
-        let b = *b;
-        write!(out, "{b:02x}")?;
+#[derive(Clone, Copy)]
+pub struct Hex<'a>(pub &'a [u8]);
+
+impl fmt::Display for Hex<'_> {
+    fn fmt<W: fmt::Write>(&self, f: &mut fmt::Formatter<W>) -> fmt::Result {
+        for byte in self.0 {
+            write!(f, "{byte:02x}")?;
+        }
+        Ok(())
     }
-    Ok(())
 }
 
-pub fn put_decimal<W: Write>(out: &mut W, x: u64) -> io::Result<()> {
-    write!(out, "{x}")
-}
+// A string in hex, `-` if it is empty.
+#[derive(Clone, Copy)]
+pub struct Text<'a>(pub &'a [u8]);
 
-// In base 16, with so many digits or more.
-pub fn put_hex<W: Write>(out: &mut W, x: u64, width: usize) -> io::Result<()> {
-    write!(out, "{x:0width$x}")
-}
-
-// A space and a number, as an operand stands.
-pub fn put_number<W: Write>(out: &mut W, x: u64) -> io::Result<()> {
-    write!(out, " {x}")
-}
-
-// A space and a string in hex, `-` if it is empty.
-pub fn put_string<W: Write>(out: &mut W, string: &[u8]) -> io::Result<()> {
-    put(out, b' ')?;
-    if string.len() == 0 {
-        return put(out, b'-');
+impl fmt::Display for Text<'_> {
+    fn fmt<W: fmt::Write>(&self, f: &mut fmt::Formatter<W>) -> fmt::Result {
+        if self.0.is_empty() {
+            return write!(f, "-");
+        }
+        let bytes = Hex(self.0);
+        write!(f, "{bytes}")
     }
-    put_bytes(out, string)
 }
 
-pub fn put_refusal<W: Write>(out: &mut W, number: u32) -> io::Result<()> {
-    writeln!(out, "refused {number}")
+pub fn put_refusal<W: Write>(out: &mut W, refusal: Refusal) -> io::Result<()> {
+    writeln!(out, "refused {}", refusal.number())
 }

@@ -1,6 +1,5 @@
 -- `access.rs`: how a value is reached, and what is done with it there.
-use Rattle.std.specs.Prelude.{ℕ, ◌+◌, [], Bool, true, false}
-use Rattle.std.proofs.Math.Option.{Option, none, some}
+use Rattle.std.specs.Prelude.{ℕ, ◌+◌, [], Bool, true, false, Option, Some, None}
 use Rattle.hir.specs.Hir.{Str, ConstantKind}
 use Rattle.pcode.specs.declared.Op.TheVariants.{GetVariable, GetMember, GetProperty, SetVariable, SetMember, SetProperty, Pop, Delete, Delete2, NewObject, NewMethod, CallFunction, CallMethod}
 use Rattle.pcode.specs.Pcode.{Value, Null, Undefined, True, False, Integer, Float, op, StoreRegister, up, down}
@@ -33,8 +32,8 @@ for_name false true name = push Undefined gives Direct
 for_name false false name = push_string name gives Variable
 
 abbrev pub for_property : Str → Option ℕ → M Access
-for_property name (some p) = push_string [] >> push (Integer p) gives SpecialProperty
-for_property name none = for_name (same_bytes name null) (same_bytes name undefined) name
+for_property name (Some p) = push_string [] >> push (Integer p) gives SpecialProperty
+for_property name None = for_name (same_bytes name null) (same_bytes name undefined) name
 
 abbrev pub for_identifier : Str → M Access
 for_identifier name = for_property name (get_special_property name)

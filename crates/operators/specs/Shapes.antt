@@ -1,5 +1,5 @@
 -- What the code's enums of a record's shape stand for.
-use Rattle.std.specs.Prelude.{ℕ, ◌+◌, ◌*◌, List, cond, eqb}
+use Rattle.std.specs.Prelude.{ℕ, ◌+◌, ◌*◌, List, Option, Some, None, cond, eqb}
 use Rattle.hir.specs.Hir as tree
 use Rattle.hir.specs.declared.ConstantKind.{ConstantKind}
 use Rattle.hir.specs.declared.ConstantKind.TheVariants as constant
@@ -14,7 +14,7 @@ use Rattle.lowering.specs.Meaning as meaning
 use Rattle.operators.specs.declared.shape.Shape.{Shape}
 use Rattle.operators.specs.declared.shape.Shape.TheVariants.{Constant, Field, NamedFunction, Other}
 use Rattle.operators.specs.declared.shape.Literal.{Literal}
-use Rattle.operators.specs.declared.shape.Literal.TheVariants.{String, Integer, Float, NoLiteral}
+use Rattle.operators.specs.declared.shape.Literal.TheVariants.{String, Integer, Float}
 
 abbrev pub constant_in : List ℕ → ConstantKind → tree.ConstantKind
 constant_in F c = constant_over (string_at F (layout_of F)) c
@@ -25,54 +25,29 @@ shape_in F Field = meaning.field
 shape_in F NamedFunction = meaning.named-function
 shape_in F Other = meaning.other
 
-abbrev pub literal_in : List ℕ → Literal → meaning.Literal
-literal_in F (String s) = meaning.string (string_at F (layout_of F) s)
-literal_in F (Integer n) = meaning.integer (unsigned n)
-literal_in F (Float low high) = meaning.float (low + 0x1_0000_0000 * high)
-literal_in F NoLiteral = meaning.no_literal
+abbrev pub literal_in : List ℕ → Option Literal → meaning.Literal
+literal_in F (Some (String s)) = meaning.string (string_at F (layout_of F) s)
+literal_in F (Some (Integer n)) = meaning.integer (unsigned n)
+literal_in F (Some (Float low high)) = meaning.float (low + 0x1_0000_0000 * high)
+literal_in F None = meaning.no_literal
 
 -- a function with a name, by the index plus 1 that its record holds
 abbrev pub kind_shape : ExprKind → Shape
 kind_shape (expr.Constant c) = Constant c
 kind_shape expr.Field = Field
 kind_shape (expr.Function n r m) = cond (eqb n 0) Other NamedFunction
-kind_shape (expr.Simple x) = Other
-kind_shape (expr.Binary x) = Other
-kind_shape (expr.Unary x) = Other
-kind_shape expr.Call = Other
-kind_shape expr.New = Other
-kind_shape expr.DuplicateMovieClip = Other
-kind_shape expr.Ternary = Other
-kind_shape expr.InitObject = Other
-kind_shape expr.InitArray = Other
-kind_shape expr.Delete = Other
-kind_shape expr.Void = Other
-kind_shape (expr.GotoFrame x) = Other
-kind_shape (expr.StartDrag x) = Other
-kind_shape (expr.GetProperty x) = Other
-kind_shape (expr.SetProperty x) = Other
+kind_shape _ = Other
 
 abbrev pub root_shape : Record → Shape
 root_shape (kind.Expr k) = kind_shape k
-root_shape (kind.Statement k) = Other
-root_shape kind.Absent = Other
-root_shape (kind.List n) = Other
-root_shape (kind.ObjectField n) = Other
-root_shape (kind.Parameter n r) = Other
-root_shape kind.Case = Other
-root_shape kind.Default = Other
-root_shape kind.Other = Other
+root_shape _ = Other
 
-abbrev pub constant_literal : ConstantKind → Literal
-constant_literal (constant.String s) = String s
-constant_literal (constant.Integer n) = Integer n
-constant_literal (constant.Float low high) = Float low high
-constant_literal (constant.Identifier s) = NoLiteral
-constant_literal (constant.Boolean b) = NoLiteral
-constant_literal (constant.Register r) = NoLiteral
+abbrev pub constant_literal : ConstantKind → Option Literal
+constant_literal (constant.String s) = Some (String s)
+constant_literal (constant.Integer n) = Some (Integer n)
+constant_literal (constant.Float low high) = Some (Float low high)
+constant_literal _ = None
 
-abbrev pub shape_literal : Shape → Literal
+abbrev pub shape_literal : Shape → Option Literal
 shape_literal (Constant c) = constant_literal c
-shape_literal Field = NoLiteral
-shape_literal NamedFunction = NoLiteral
-shape_literal Other = NoLiteral
+shape_literal _ = None

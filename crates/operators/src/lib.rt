@@ -21,57 +21,59 @@ pub enum Plan {
     LogicalOr,
 }
 
-pub fn plan_of(o: BinaryOperator) -> Plan
-    ensures { plan_of result ≡ plan o }
-{
-    match o {
-        BinaryOperator::Add => Plan::Trivial(Op::Add2),
-        BinaryOperator::Assign => Plan::Assign,
-        BinaryOperator::AddAssign => Plan::TrivialAssign(Op::Add2),
-        BinaryOperator::Sub => Plan::Trivial(Op::Subtract),
-        BinaryOperator::SubAssign => Plan::TrivialAssign(Op::Subtract),
-        BinaryOperator::Divide => Plan::Trivial(Op::Divide),
-        BinaryOperator::DivideAssign => Plan::TrivialAssign(Op::Divide),
-        BinaryOperator::Multiply => Plan::Trivial(Op::Multiply),
-        BinaryOperator::MultiplyAssign => Plan::TrivialAssign(Op::Multiply),
-        BinaryOperator::Modulo => Plan::Trivial(Op::Modulo),
-        BinaryOperator::ModuloAssign => Plan::TrivialAssign(Op::Modulo),
-        BinaryOperator::BitAnd => Plan::Trivial(Op::BitAnd),
-        BinaryOperator::BitAndAssign => Plan::TrivialAssign(Op::BitAnd),
-        BinaryOperator::BitOr => Plan::Trivial(Op::BitOr),
-        BinaryOperator::BitOrAssign => Plan::TrivialAssign(Op::BitOr),
-        BinaryOperator::BitXor => Plan::Trivial(Op::BitXor),
-        BinaryOperator::BitXorAssign => Plan::TrivialAssign(Op::BitXor),
-        BinaryOperator::BitShiftLeft => Plan::Trivial(Op::BitLShift),
-        BinaryOperator::BitShiftLeftAssign => Plan::TrivialAssign(Op::BitLShift),
-        BinaryOperator::BitShiftRight => Plan::Trivial(Op::BitRShift),
-        BinaryOperator::BitShiftRightAssign => Plan::TrivialAssign(Op::BitRShift),
-        BinaryOperator::BitShiftRightUnsigned => Plan::Trivial(Op::BitURShift),
-        BinaryOperator::BitShiftRightUnsignedAssign => Plan::TrivialAssign(Op::BitURShift),
-        BinaryOperator::Equal => Plan::Trivial(Op::Equals2),
-        BinaryOperator::StrictEqual => Plan::Trivial(Op::StrictEquals),
-        BinaryOperator::NotEqual => Plan::TrivialNot(Op::Equals2),
-        BinaryOperator::StrictNotEqual => Plan::TrivialNot(Op::StrictEquals),
-        BinaryOperator::LessThan => Plan::Trivial(Op::Less2),
-        BinaryOperator::LessThanEqual => Plan::TrivialNot(Op::Greater),
-        BinaryOperator::GreaterThan => Plan::Trivial(Op::Greater),
-        BinaryOperator::GreaterThanEqual => Plan::TrivialNot(Op::Less2),
-        BinaryOperator::LogicalAnd => Plan::LogicalAnd,
-        BinaryOperator::LogicalOr => Plan::LogicalOr,
-        BinaryOperator::InstanceOf => Plan::Trivial(Op::InstanceOf),
-        BinaryOperator::StringEqual => Plan::Trivial(Op::StringEquals),
-        BinaryOperator::StringGreaterThan => Plan::Trivial(Op::StringGreater),
-        BinaryOperator::StringGreaterThanEqual => Plan::TrivialNot(Op::StringLess),
-        BinaryOperator::StringLessThan => Plan::Trivial(Op::StringLess),
-        BinaryOperator::StringLessThanEqual => Plan::TrivialNot(Op::StringGreater),
-        BinaryOperator::StringNotEqual => Plan::TrivialNot(Op::StringEquals),
-        BinaryOperator::BooleanAnd => Plan::Trivial(Op::And),
-        BinaryOperator::BooleanOr => Plan::Trivial(Op::Or),
-        BinaryOperator::StringAdd => Plan::Trivial(Op::StringAdd),
+impl From<BinaryOperator> for Plan {
+    ghost from_gives = { λ o p. plan_of p ≡ plan o };
+
+    fn from(o: BinaryOperator) -> Self {
+        match o {
+            BinaryOperator::Add => Plan::Trivial(Op::Add2),
+            BinaryOperator::Assign => Plan::Assign,
+            BinaryOperator::AddAssign => Plan::TrivialAssign(Op::Add2),
+            BinaryOperator::Sub => Plan::Trivial(Op::Subtract),
+            BinaryOperator::SubAssign => Plan::TrivialAssign(Op::Subtract),
+            BinaryOperator::Divide => Plan::Trivial(Op::Divide),
+            BinaryOperator::DivideAssign => Plan::TrivialAssign(Op::Divide),
+            BinaryOperator::Multiply => Plan::Trivial(Op::Multiply),
+            BinaryOperator::MultiplyAssign => Plan::TrivialAssign(Op::Multiply),
+            BinaryOperator::Modulo => Plan::Trivial(Op::Modulo),
+            BinaryOperator::ModuloAssign => Plan::TrivialAssign(Op::Modulo),
+            BinaryOperator::BitAnd => Plan::Trivial(Op::BitAnd),
+            BinaryOperator::BitAndAssign => Plan::TrivialAssign(Op::BitAnd),
+            BinaryOperator::BitOr => Plan::Trivial(Op::BitOr),
+            BinaryOperator::BitOrAssign => Plan::TrivialAssign(Op::BitOr),
+            BinaryOperator::BitXor => Plan::Trivial(Op::BitXor),
+            BinaryOperator::BitXorAssign => Plan::TrivialAssign(Op::BitXor),
+            BinaryOperator::BitShiftLeft => Plan::Trivial(Op::BitLShift),
+            BinaryOperator::BitShiftLeftAssign => Plan::TrivialAssign(Op::BitLShift),
+            BinaryOperator::BitShiftRight => Plan::Trivial(Op::BitRShift),
+            BinaryOperator::BitShiftRightAssign => Plan::TrivialAssign(Op::BitRShift),
+            BinaryOperator::BitShiftRightUnsigned => Plan::Trivial(Op::BitURShift),
+            BinaryOperator::BitShiftRightUnsignedAssign => Plan::TrivialAssign(Op::BitURShift),
+            BinaryOperator::Equal => Plan::Trivial(Op::Equals2),
+            BinaryOperator::StrictEqual => Plan::Trivial(Op::StrictEquals),
+            BinaryOperator::NotEqual => Plan::TrivialNot(Op::Equals2),
+            BinaryOperator::StrictNotEqual => Plan::TrivialNot(Op::StrictEquals),
+            BinaryOperator::LessThan => Plan::Trivial(Op::Less2),
+            BinaryOperator::LessThanEqual => Plan::TrivialNot(Op::Greater),
+            BinaryOperator::GreaterThan => Plan::Trivial(Op::Greater),
+            BinaryOperator::GreaterThanEqual => Plan::TrivialNot(Op::Less2),
+            BinaryOperator::LogicalAnd => Plan::LogicalAnd,
+            BinaryOperator::LogicalOr => Plan::LogicalOr,
+            BinaryOperator::InstanceOf => Plan::Trivial(Op::InstanceOf),
+            BinaryOperator::StringEqual => Plan::Trivial(Op::StringEquals),
+            BinaryOperator::StringGreaterThan => Plan::Trivial(Op::StringGreater),
+            BinaryOperator::StringGreaterThanEqual => Plan::TrivialNot(Op::StringLess),
+            BinaryOperator::StringLessThan => Plan::Trivial(Op::StringLess),
+            BinaryOperator::StringLessThanEqual => Plan::TrivialNot(Op::StringGreater),
+            BinaryOperator::StringNotEqual => Plan::TrivialNot(Op::StringEquals),
+            BinaryOperator::BooleanAnd => Plan::Trivial(Op::And),
+            BinaryOperator::BooleanOr => Plan::Trivial(Op::Or),
+            BinaryOperator::StringAdd => Plan::Trivial(Op::StringAdd),
+        }
     }
 }
 
-// The action that a simple expression ends in.
+// The action that a simple expression ends in. A function, and no `From`: both types are of other crates.
 pub fn action_of(k: SimpleKind) -> Op
     ensures { result ≡ simple_action k }
 {

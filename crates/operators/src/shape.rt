@@ -15,54 +15,27 @@ pub enum Shape {
     Other,
 }
 
-fn kind_shape(kind: ExprKind) -> Shape
-    ensures { result ≡ kind_shape kind }
-{
-    match kind {
-        ExprKind::Constant(c) => Shape::Constant(c),
-        ExprKind::Field => Shape::Field,
-        ExprKind::Function {
-            name,
-            registers,
-            marks,
-        } => {
-            if name != 0 {
-                Shape::NamedFunction
-            } else {
-                Shape::Other
-            }
+impl From<ExprKind> for Shape {
+    ghost from_gives = { λ kind shape. shape ≡ kind_shape kind };
+
+    fn from(kind: ExprKind) -> Self {
+        match kind {
+            ExprKind::Constant(c) => Shape::Constant(c),
+            ExprKind::Field => Shape::Field,
+            ExprKind::Function { name, .. } if name != 0 => Shape::NamedFunction,
+            _ => Shape::Other,
         }
-        ExprKind::Simple(x) => Shape::Other,
-        ExprKind::Binary(x) => Shape::Other,
-        ExprKind::Unary(x) => Shape::Other,
-        ExprKind::Call => Shape::Other,
-        ExprKind::New => Shape::Other,
-        ExprKind::DuplicateMovieClip => Shape::Other,
-        ExprKind::Ternary => Shape::Other,
-        ExprKind::InitObject => Shape::Other,
-        ExprKind::InitArray => Shape::Other,
-        ExprKind::Delete => Shape::Other,
-        ExprKind::Void => Shape::Other,
-        ExprKind::GotoFrame(x) => Shape::Other,
-        ExprKind::StartDrag(x) => Shape::Other,
-        ExprKind::GetProperty(x) => Shape::Other,
-        ExprKind::SetProperty(x) => Shape::Other,
     }
 }
 
-pub fn shape_of(root: Record) -> Shape
-    ensures { result ≡ root_shape root }
-{
-    match root {
-        Record::Expr(kind) => kind_shape(kind),
-        Record::Statement(x) => Shape::Other,
-        Record::Absent => Shape::Other,
-        Record::List(x) => Shape::Other,
-        Record::ObjectField(x) => Shape::Other,
-        Record::Parameter { name, register } => Shape::Other,
-        Record::Case => Shape::Other,
-        Record::Default => Shape::Other,
-        Record::Other => Shape::Other,
+impl From<Record> for Shape {
+    ghost from_gives = { λ root shape. shape ≡ root_shape root };
+
+    fn from(root: Record) -> Self {
+        match root {
+            Record::Expr(kind) => Shape::from(kind),
+            _ => Shape::Other,
+        }
     }
 }
 
@@ -72,31 +45,25 @@ pub enum Literal {
     String(u32),
     Integer(i32),
     Float(u32, u32),
-    NoLiteral,
 }
 
-fn constant_literal(c: ConstantKind) -> Literal
+fn constant_literal(c: ConstantKind) -> Option<Literal>
     ensures { result ≡ constant_literal c }
 {
     match c {
-        ConstantKind::String(s) => Literal::String(s),
-        ConstantKind::Integer(n) => Literal::Integer(n),
-        ConstantKind::Float(low, high) => Literal::Float(low, high),
-        ConstantKind::Identifier(s) => Literal::NoLiteral,
-        ConstantKind::Boolean(x) => Literal::NoLiteral,
-        ConstantKind::Register(r) => Literal::NoLiteral,
+        ConstantKind::String(s) => Some(Literal::String(s)),
+        ConstantKind::Integer(n) => Some(Literal::Integer(n)),
+        ConstantKind::Float(low, high) => Some(Literal::Float(low, high)),
+        _ => None,
     }
 }
 
-pub fn literal_of(root: Record) -> Literal
+pub fn literal_of(root: Record) -> Option<Literal>
     ensures { result ≡ shape_literal (root_shape root) }
 {
-    let s = shape_of(root);
-    match s {
+    match Shape::from(root) {
         Shape::Constant(c) => constant_literal(c),
-        Shape::Field => Literal::NoLiteral,
-        Shape::NamedFunction => Literal::NoLiteral,
-        Shape::Other => Literal::NoLiteral,
+        _ => None,
     }
 }
 
@@ -104,15 +71,5 @@ pub fn literal_of(root: Record) -> Literal
 pub fn is_present(root: Record) -> bool
     ensures { (F : List ℕ) → result ≡ meaning.present (rec_of F root) }
 {
-    match root {
-        Record::Absent => false,
-        Record::Expr(x) => true,
-        Record::Statement(x) => true,
-        Record::List(x) => true,
-        Record::ObjectField(x) => true,
-        Record::Parameter { name, register } => true,
-        Record::Case => true,
-        Record::Default => true,
-        Record::Other => true,
-    }
+    !matches!(root, Record::Absent)
 }

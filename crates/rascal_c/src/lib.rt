@@ -3,26 +3,17 @@
 // The two calls for programs in other languages. A slice is a pointer and a length; the word that they return is the length, or 2^64 - 1 less the refusal's
 // number.
 ghost use Rattle.std.specs.Prelude.{◌≡◌, length};
-ghost use Rattle.rascal.specs.Calls.{compiled_word, read_word, CompilesTo, ReadsTo};
+ghost use Rattle.rascal.specs.Calls.{word_of, CompilesTo, ReadsTo};
 
-use action_reader::Answer;
-use rascal::{Compiled, compile, read};
+use rascal::{compile, read};
+use refusal::Refusal;
 
-fn compiled_word(answer: Compiled) -> u64
-    ensures { result ≡ compiled_word answer }
+fn word(answer: Result<usize, Refusal>) -> u64
+    ensures { result ≡ word_of answer }
 {
     match answer {
-        Compiled::Bytes(n) => n as u64,
-        Compiled::Refused(number) => 0xFFFF_FFFF_FFFF_FFFF - number as u64,
-    }
-}
-
-fn read_word(answer: Answer) -> u64
-    ensures { result ≡ read_word answer }
-{
-    match answer {
-        Answer::Read(n) => n as u64,
-        Answer::Refused(number) => 0xFFFF_FFFF_FFFF_FFFF - number as u64,
+        Ok(n) => n as u64,
+        Err(refusal) => u64::MAX - u64::from(refusal.number()),
     }
 }
 
@@ -30,14 +21,12 @@ fn read_word(answer: Answer) -> u64
 pub extern "C" fn rascal_compile(file: &[u8], list: &mut [u32], output: &mut [u8]) -> u64
     ensures { CompilesTo file.now (length list.old) (length output.old) result output.new list.new }
 {
-    let answer = compile(file, list, output);
-    compiled_word(answer)
+    word(compile(file, list, output))
 }
 
 #[unsafe(no_mangle)]
 pub extern "C" fn rascal_read(bytes: &[u8], list: &mut [u32]) -> u64
     ensures { ReadsTo bytes.now (length list.old) result list.new }
 {
-    let answer = read(bytes, list);
-    read_word(answer)
+    word(read(bytes, list))
 }

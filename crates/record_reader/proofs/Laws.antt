@@ -25,7 +25,7 @@ use Rattle.record_reader.specs.Shape.{short_ops, is_short, data_reader}
 use Rattle.record_reader.proofs.Tables.{long_record}
 use Rattle.record_reader.proofs.ReadFacts.{value_fits_read, plain_fits_read}
 use Rattle.record_reader.proofs.Rests.{rest_of}
-use Rattle.record_reader.proofs.Whole.{drop_take}
+use Rattle.std.proofs.lemmas.List.{drop-take}
 
 -- the record x at p, and what follows it
 
@@ -138,7 +138,7 @@ module _ {b : Bytes} {p : ℕ} (vs : List pcode.Value) (r : Bytes) (k : RecordAt
   push_data =
       let n : p + length (single_bytes (pushing vs)) ≡ p + 3 + length contents = omega arith in
       let q : p + 3 ≤ length b = omega (arith, k.inside) in
-      rw (n, drop_take (p + 3) (length contents) b q, ← (drop-drop 3 p b), k.written) (take_at contents r (length contents) refl)
+      rw (n, drop-take (p + 3) (length contents) b, ← (drop-drop 3 p b), k.written) (take_at contents r (length contents) refl)
 
   read_in : read_record (drop p b) ≡ some (alone (pushing vs), r) → read_inside read_push contents r ≡ some (alone (pushing vs), r)
   unfolding data_reader

@@ -1,9 +1,9 @@
 pub mod Bools
-pub mod Positions
-pub mod Tables
-pub mod Data
-pub mod Headers
+pub mod Front
+pub mod Judged
 pub mod ReadValues
+pub mod Headers
+pub mod Tables
 pub mod Rests
 pub mod Pushes
 pub mod Whole

@@ -1,154 +1,107 @@
 -- Pushed values, by their types.
-use Prim.Native.Nat.{ℕ, zero, suc, ◌+◌, ◌-◌, ◌*◌, ◌/◌, ◌%◌, ◌^◌, ◌≤◌, ◌<◌}
-use mathlib.Core.Path.{◌≡◌, refl}
-use mathlib.Core.Bool.{Bool, true, false}
-use mathlib.Core.Option.{Option, none, some}
-use native.Mathlib.Omega.{arith}
-use lib.Dec.{leb, ltb}
-use lib.ListN.{length, drop, length-drop, drop_of_length-le}
-use borrow.Author.Tests.{lt-ltb, le-leb, lt-leb}
-use Rattle.hir.specs.Hir.{Str}
-use Rattle.utf8.specs.Utf8.{utf8}
-use Rattle.pcode.specs.Pcode as pcode
+use Rattle.std.proofs.Common.{ℕ, zero, suc, ◌+◌, ◌-◌, ◌*◌, ◌/◌, ◌%◌, ◌^◌, ◌<◌, ◌≤◌, ◌≡◌, refl, ap, sym, ◌∙◌, true, Some, None, arith, length, take, drop, ◌++◌, ◌⊎◌, inl, inr, length-append, length-drop, suc-add, zero-add, one-mul, mul-add, mul_assoc, add_assoc, pow-suc, mul_left_comm}
+use mathlib.Core.Option as math
+use mathlib.Core.Option.{none, some}
+use lib.ListN.{drop_of_length-le}
+use Rattle.std.proofs.lemmas.List.{take_rest}
+use borrow.Author.Tests.{lt-ltb}
 use Rattle.action_format.specs.Bytes.{Bytes, stored}
-use Rattle.action_format.specs.Readers.{P, bind, pure, pure_if, read_byte, word_reader, read_flag, dispatch}
-use Rattle.action_format.specs.Decode.{truth, value_readers, read_value}
-use Rattle.action_format.proofs.Readers.{◌also◌}
-use Rattle.list_slice.specs.Entry.{entry, value_entry, is_one}
-use Rattle.list_slice.specs.Items.{pushed_of}
-use Rattle.record_reader.specs.declared.ReadValue.{ReadValue}
-use Rattle.record_reader.specs.declared.parts.Step.{Step}
-use Rattle.record_reader.specs.Heads.{no_value, with_entry, value_of, value_at, value_holds}
-use Rattle.record_reader.specs.Steps.{IsByte, IsWord, IsLong, Steps}
-use Rattle.record_reader.proofs.Bools.{and_true}
-use Rattle.record_reader.proofs.Positions.{read, nearer, short_at}
-use Rattle.record_reader.proofs.Tables.{dispatch_none}
-use Rattle.record_reader.proofs.Data.{flag_none, flag_at, flag_not}
+use Rattle.action_format.specs.Readers.{P, bind, ◌>>=◌, pure, read_byte, word_reader, dispatch}
+use Rattle.action_format.specs.Decode.{value_readers, read_value}
+use Rattle.action_format.proofs.Readers.{reads_word}
+use Rattle.action_format.proofs.Values.{reads_value}
+use Rattle.record_reader.specs.declared.PushedValue.{PushedValue}
+use Rattle.record_reader.specs.Heads.{pushed_value, value_at}
+use Rattle.record_reader.specs.Steps.{pushed_of}
+use Rattle.record_reader.proofs.Judged.{got, got_none}
 
--- eight bytes
+-- a number in two parts, the lower one first
 
-pub eight_at : {b : Bytes} {p low high : ℕ} → IsLong b p low → IsLong b (p + 4) high → word_reader 8 (drop p b) ≡ some (low + 2 ^ 32 * high, drop (p + 8) b)
-unfolding word_reader
-eight_at {b} {p} {low} {high} f g =
-    rw (
-      f.low_is.low_is.is,
-      f.low_is.high_is.is,
-      nearer b (p + 1 + 1) (p + 2) (omega arith),
-      f.high_is.low_is.is,
-      f.high_is.high_is.is,
-      nearer b (p + 2 + 1 + 1) (p + 4) (omega arith),
-      g.low_is.low_is.is,
-      g.low_is.high_is.is,
-      nearer b (p + 4 + 1 + 1) (p + 4 + 2) (omega arith),
-      g.high_is.low_is.is,
-      g.high_is.high_is.is,
-    )
-    (read b
-    (f.low_is.low + 256 * (f.low_is.high + 256 * (f.high_is.low + 256 * (f.high_is.high + 256 *
-    (g.low_is.low + 256 * (g.low_is.high + 256 * (g.high_is.low + 256 * (g.high_is.high + 256 * 0))))))))
-    (low + 2 ^ 32 * high) (p + 4 + 2 + 1 + 1) (p + 8)
-    (omega (arith, f.sum, g.sum, f.low_is.sum, f.high_is.sum, g.low_is.sum, g.high_is.sum)) (omega arith))
+module _ (k : ℕ) where
+  abbrev in_parts : (j : ℕ) → P ℕ
+  in_parts j = word_reader j >>= λ low. word_reader k >>= λ high. pure (low + 256 ^ j * high)
 
--- what is said of what was read at p
+  parts : (j : ℕ) (d : Bytes) → word_reader (j + k) d ≡ in_parts j d
+  unfolding word_reader
+  parts zero d = go (word_reader (0 + k) d) (word_reader k d) (rw (zero-add k))
+    where
+      go : (o u : math.Option (ℕ × Bytes)) → o ≡ u → o ≡ bind u (λ high. pure (0 + 256 ^ 0 * high))
+      go o none e = e
+      go o (some x) e = rw (e, zero-add (256 ^ 0 * x.0), one-mul x.0)
+  parts (suc j) d = rw (suc-add j k) (go (read_byte d) (parts j))
+    where
+      sum : (b low high : ℕ) → b + 256 * (low + 256 ^ j * high) ≡ b + 256 * low + 256 ^ suc j * high
+      sum b low high = rw (pow-suc 256 j, mul-add 256 low (256 ^ j * high), add_assoc, mul_assoc, mul_left_comm)
 
-pub none_read : (p n pool : ℕ) {o : Option (pcode.Value × Bytes)} {r : ReadValue} → r ≡ no_value p → o ≡ none → r ≡ value_of p n pool o
-none_read p n pool e f = rw f e
+      inner : (b low : ℕ) (o : math.Option (ℕ × Bytes)) → bind (bind o (λ high. pure (low + 256 ^ j * high))) (λ n. pure (b + 256 * n)) ≡ bind o (λ high. pure (b + 256 * low + 256 ^ suc j * high))
+      inner b low none = refl
+      inner b low (some x) = rw (sum b low x.0)
 
-module _ (b : Bytes) (p pool : ℕ) {o : Option (pcode.Value × Bytes)} {r : ReadValue} where
-  pub value_read : (v : pcode.Value) (i : ℕ) → i ≤ length b → o ≡ some (v, drop i b) → r ≡ with_entry (value_entry 0 (pushed_of (λ s. p + 1) v)) i (value_holds pool v) →
-      r ≡ value_of p (length b) pool o
-  value_read v i h f e =
-      let n : length b - (length b - i) ≡ i = omega arith in
-      rw (f, length-drop i b, n) e
+      mid : (b : ℕ) (o : math.Option (ℕ × Bytes)) → bind (bind o (λ low. word_reader k >>= λ high. pure (low + 256 ^ j * high))) (λ n. pure (b + 256 * n))
+          ≡ bind (bind o (λ low. pure (b + 256 * low))) (λ low. word_reader k >>= λ high. pure (low + 256 ^ suc j * high))
+      mid b none = refl
+      mid b (some x) = inner b x.0 (word_reader k x.1)
 
--- each type: what is found is the value's entry
+      go : (o : math.Option (ℕ × Bytes)) → ((r : Bytes) → word_reader (j + k) r ≡ in_parts j r) →
+          bind o (λ b. word_reader (j + k) >>= λ n. pure (b + 256 * n)) ≡ bind (bind o (λ b. word_reader j >>= λ n. pure (b + 256 * n))) (λ low. word_reader k >>= λ high. pure (low + 256 ^ suc j * high))
+      go none h = refl
+      go (some x) h = rw (h x.1) (mid x.0 (word_reader j x.1))
 
-abbrev pub Says : (p pool i : ℕ) → ℕ → ℕ → ℕ → Bool → pcode.Value → Type 0
-Says p pool i c x y t v = with_entry (entry c x y) i t ≡ with_entry (value_entry 0 (pushed_of (λ s. p + 1) v)) i (value_holds pool v)
+-- a float's low and high word
 
-pub says_string : (p pool i : ℕ) (s : Str) {t : Bool} → utf8 s ≡ t → Says p pool i 0 (p + 1) 0 t (pcode.String s)
-says_string p pool i s e = rw (and_true (utf8 s), e)
+module _ (at pool : ℕ) (d : Bytes) where
+  abbrev float : math.Option (PushedValue × Bytes)
+  float = pushed_of at pool (dispatch value_readers 6 d)
 
-pub says_register : (p pool i k : ℕ) → k < 256 → Says p pool i 4 k 0 true (pcode.Register k)
-says_register p pool i k h = rw (lt-ltb k 256 h)
+  pub no_low : none ≡ word_reader 4 d → none ≡ float
+  no_low e = rw (parts 4 4 d, ← e)
 
-pub says_boolean : (p pool i k : ℕ) → k ≤ 1 → Says p pool i 5 k 0 true (truth (is_one k))
-says_boolean p pool i zero h = refl
-says_boolean p pool i (suc zero) h = refl
-says_boolean p pool i (suc (suc k)) h = absurd (omega arith)
+  module _ {low : ℕ} {r : Bytes} (e : some (low, r) ≡ word_reader 4 d) where
+    pub no_high : none ≡ word_reader 4 r → none ≡ float
+    no_high f = rw (parts 4 4 d, ← e, ← f)
 
-pub says_float : (p pool i low high : ℕ) → low < 2 ^ 32 → high < 2 ^ 32 → Says p pool i 6 low high true (pcode.Float (stored (low + 2 ^ 32 * high)))
-unfolding stored
-says_float p pool i low high h k =
-    let m : (low + 2 ^ 32 * high) % 2 ^ 32 ≡ low = omega arith in
-    let d : (low + 2 ^ 32 * high) / 2 ^ 32 ≡ high = omega arith in
-    rw (m, d, lt-ltb (low + 2 ^ 32 * high) (2 ^ 64) (omega arith))
+    pub float_value : {high : ℕ} {s : Bytes} → some (high, s) ≡ word_reader 4 r →
+        some (record { code = 6; first = low; second = high; fits = true }, s) ≡ float
+    unfolding stored
+    float_value {high} {s} f =
+        let h : low < 2 ^ 32 = ((reads_word 4).run d low r (sym e)).fact.1 in
+        let k : high < 2 ^ 32 = ((reads_word 4).run r high s (sym f)).fact.1 in
+        let m : (low + 2 ^ 32 * high) % 2 ^ 32 ≡ low = omega arith in
+        let q : (low + 2 ^ 32 * high) / 2 ^ 32 ≡ high = omega arith in
+        rw (parts 4 4 d, ← e, ← f, m, q, lt-ltb (low + 2 ^ 32 * high) (2 ^ 64) (omega arith))
 
-pub says_integer : (p pool i k : ℕ) → k < 2 ^ 32 → Says p pool i 7 k 0 true (pcode.Integer k)
-says_integer p pool i k h = rw (lt-ltb k (2 ^ 32) h)
+-- a value's type and what follows it
 
-pub says_constant : (p pool i k : ℕ) → Says p pool i 8 k 0 (ltb k pool) (pcode.Constant k)
-says_constant p pool i k = rw (and_true (ltb k pool))
-
--- the readers of the types, at q
-
-pub word_missing : {A : Type 0} (k : ℕ) (f : ℕ → P A) (b : Bytes) (q : ℕ) → length b - q < k → bind (word_reader k (drop q b)) f ≡ none
-word_missing k f b q h = rw (short_at k b q h)
-
-pub byte_missing : {A : Type 0} (f : ℕ → P A) (b : Bytes) (q : ℕ) → length b ≤ q → bind (read_byte (drop q b)) f ≡ none
-unfolding read_byte
-byte_missing f b q h = rw (drop_of_length-le b h)
-
-module _ {b : Bytes} {q : ℕ} where
-  pub byte_then : {A : Type 0} (f : ℕ → A) {n : ℕ} → IsByte b q n → bind (read_byte (drop q b)) (λ k. pure (f k)) ≡ some (f n, drop (q + 1) b)
-  byte_then f k = rw k.is
-
-  pub long_then : {A : Type 0} (f : ℕ → A) {n : ℕ} → IsLong b q n → bind (word_reader 4 (drop q b)) (λ k. pure (f k)) ≡ some (f n, drop (q + 4) b)
-  long_then f k = rw k.is
-
-  pub eight_then : {A : Type 0} (f : ℕ → A) {low high : ℕ} → IsLong b q low → IsLong b (q + 4) high →
-      bind (word_reader 8 (drop q b)) (λ k. pure (f k)) ≡ some (f (low + 2 ^ 32 * high), drop (q + 8) b)
-  eight_then f k l = rw (eight_at k l)
-
-  pub flag_then : {A : Type 0} (f : Bool → A) {n : ℕ} → IsByte b q n → n ≤ 1 → bind (read_flag (drop q b)) (λ t. pure (f t)) ≡ some (f (is_one n), drop (q + 1) b)
-  flag_then f k h = rw (flag_at k h)
-
-  pub flag_fails : {A : Type 0} (f : Bool → A) {n : ℕ} → IsByte b q n → 1 < n → bind (read_flag (drop q b)) (λ t. pure (f t)) ≡ none
-  flag_fails f k h = rw (flag_not k h)
-
-  pub wide_then : {n : ℕ} → IsWord b q n → 256 ≤ n → bind (word_reader 2 (drop q b)) (λ i. pure_if (leb 256 i) (pcode.Constant i)) ≡ some (pcode.Constant n, drop (q + 2) b)
-  wide_then {n} k h = rw (k.is, le-leb 256 n h)
-
-  pub wide_fails : {n : ℕ} → IsWord b q n → n < 256 → bind (word_reader 2 (drop q b)) (λ i. pure_if (leb 256 i) (pcode.Constant i)) ≡ none
-  wide_fails {n} k h = rw (k.is, lt-leb 256 n h)
-
-pub flag_missing : {A : Type 0} (f : Bool → A) (b : Bytes) (q : ℕ) → length b ≤ q → bind (read_flag (drop q b)) (λ t. pure (f t)) ≡ none
-flag_missing f b q h = rw (flag_none b q h)
-
-module _ {A B : Type 0} {o : Option (A × Bytes)} {d : Bytes} {t : A → Bool} {q : ℕ} {s : Step} (k : Steps o d t q s) (f : A → B) where
-  pub step_missing : s.read ≡ false → bind o (λ x. pure (f x)) ≡ none
-  step_missing r = rw (k.failed r)
-
-  pub step_then : (r : s.read ≡ true) → bind o (λ x. pure (f x)) ≡ some (f (k.was r).value, drop s.next d)
-  step_then r = rw (k.was r).is
-
--- the type decides
-
-pub no_type : (b : Bytes) (p pool : ℕ) {r : ReadValue} → length b ≤ p → r ≡ no_value p → r ≡ value_at b p pool
+pub value_past : (b : Bytes) (p pool : ℕ) → (length b < p) ⊎ (length b < length b) → None ≡ value_at b p pool
 unfolding value_at read_value read_byte
-no_type b p pool h e = rw (drop_of_length-le b h) e
+value_past b p pool (inl h) = let k : length b ≤ p = omega arith in rw (drop_of_length-le b k)
+value_past b p pool (inr h) = absurd (omega arith)
 
-pub by_type : {b : Bytes} {p : ℕ} (pool : ℕ) {n : ℕ} {r : ReadValue} → IsByte b p n → (k : ℕ) → n ≡ k → r ≡ value_of p (length b) pool (dispatch value_readers k (drop (p + 1) b)) →
-    r ≡ value_at b p pool
-unfolding value_at read_value
-by_type pool k t e f = rw (k.is, e) f
+module _ (b : Bytes) (p pool : ℕ) {d : Bytes} (e : d ≡ take (length b - p) (drop p b)) where
+  there : drop p b ≡ d
+  there = sym (e ∙ take_rest b p)
 
-pub other_type : {b : Bytes} {p : ℕ} (pool : ℕ) {n : ℕ} {r : ReadValue} → IsByte b p n → r ≡ no_value p →
-    (((((((((Unit {0} × (n ≡ 0 → ⊥)) × (n ≡ 2 → ⊥)) × (n ≡ 3 → ⊥)) × (n ≡ 4 → ⊥)) × (n ≡ 5 → ⊥)) × (n ≡ 6 → ⊥)) × (n ≡ 7 → ⊥)) × (n ≡ 8 → ⊥)) × (n ≡ 9 → ⊥)) →
-    r ≡ value_at b p pool
-unfolding value_at read_value
-other_type {b} {p} pool {n} k e h =
-    let m = dispatch_none value_readers n (drop (p + 1) b)
-    (h.0.0.0.0.0.0.0.0.1 also h.0.0.0.0.0.0.0.1 also h.0.0.0.0.0.0.1 also h.0.0.0.0.0.1 also h.0.0.0.0.1 also
-    h.0.0.0.1 also h.0.0.1 also h.0.1 also h.1 also tt) in
-    rw (k.is, m) e
+  pub value_untyped : none ≡ read_byte d → None ≡ value_at b p pool
+  unfolding value_at read_value
+  value_untyped f = rw (there, ← f)
+
+  module _ {k : ℕ} {r : Bytes} (f : some (k, r) ≡ read_byte d) where
+    typed : read_value (drop p b) ≡ dispatch value_readers k r
+    unfolding read_value
+    typed = rw (there, ← f)
+
+    pub value_none : none ≡ pushed_of (p + 1) pool (dispatch value_readers k r) → None ≡ value_at b p pool
+    unfolding value_at
+    value_none g = rw (typed, got_none (pushed_value (p + 1) pool) (dispatch value_readers k r) g)
+
+    module _ {v : PushedValue} {rest : Bytes} (g : some (v, rest) ≡ pushed_of (p + 1) pool (dispatch value_readers k r)) where
+      pub value_some : Some (record { value = v; next = length b - length rest }) ≡ value_at b p pool
+      unfolding value_at
+      value_some = let x = got g in rw (typed, x.is, x.tested)
+
+      pub value_rest : length rest ≤ length b
+      value_rest =
+          let x = got g in
+          let s = reads_value.run (drop p b) x.value rest (typed ∙ x.is) in
+          let l : length (drop p b) ≡ length (s.own ++ rest) = ap length s.is in
+          omega (arith, length-append s.own rest, length-drop p b)

@@ -5,10 +5,11 @@ use mathlib.Core.List.{List, [], ◌∷◌, ◌++◌, map}
 use mathlib.Core.Bool.{Bool, true, false, not, ◌&&◌}
 use mathlib.Core.Option.{Option, none, some}
 use native.Mathlib.Omega.{arith}
+use Rattle.std.proofs.Common.{Some}
 use native.Mathlib.Nat.{add-zero, add-suc, suc-add, le_of_suc-le-suc, not-suc-le-zero}
 use lib.Dec.{T, eqb, leb, ltb, ltb→lt}
 use lib.ListN.{length}
-use borrow.Author.Tests.{eqb-true, ne_eqb, lt-leb}
+use borrow.Author.Tests.{eqb-true, lt-leb}
 use Rattle.pcode.specs.declared.Op.{Op}
 use Rattle.pcode.specs.Pcode.{row_of, all_ops}
 use Rattle.action_format.specs.Bytes.{Bytes}
@@ -21,20 +22,6 @@ use Rattle.record_reader.specs.declared.Kind.TheVariants as kind
 use Rattle.record_reader.specs.Heads.{head_of}
 use Rattle.record_reader.specs.Shape.{find_op, short_ops, is_short, data_table, data_reader}
 use Rattle.record_reader.proofs.Bools.{never_true}
-
--- a tag that no row has
-
-module _ {A : Type 0} where
-  abbrev pub Misses : List (ℕ × P A) → ℕ → Type 0
-  Misses [] n = Unit {0}
-  Misses (x ∷ rows) n = (n ≡ x.0 → ⊥) × Misses rows n
-
-  pub dispatch_none : (rows : List (ℕ × P A)) (n : ℕ) (r : Bytes) → Misses rows n → dispatch rows n r ≡ none
-  dispatch_none [] n r h = refl
-  dispatch_none (x ∷ rows) n r h = go (eqb n x.0) (ne_eqb n x.0 h.0) (dispatch_none rows n r h.1)
-    where
-      go : (t : Bool) → t ≡ false → dispatch rows n r ≡ none → (elim t as (λ _. P A) [ true ↦ x.1 | false ↦ dispatch rows n ]) r ≡ none
-      go t e k = rw e k
 
 -- readers of the data, each in a record
 
@@ -142,12 +129,12 @@ module _ (c : ℕ) (r : Bytes) (h : c < 256) where
       go none e = refl
       go (some x) e = never_true (sym e)
 
-  pub short_record : is_short c ≡ true → (p n pool : ℕ) → record { kind = kind.Plain c 0; next = n - length r; fits = true } ≡ head_of p n pool (read_record (c ∷ r))
+  pub short_record : is_short c ≡ true → (p n pool : ℕ) → Some (record { kind = kind.Plain c 0; next = n - length r; fits = true }) ≡ head_of p n pool (read_record (c ∷ r))
   unfolding is_short
   short_record y p n pool = rw tag (go (find_op short_ops c) refl y)
     where
       go : (o : Option Op) → find_op short_ops c ≡ o → elim o as (λ _. Bool) [ none ↦ false | some x ↦ true ] ≡ true →
-          record { kind = kind.Plain c 0; next = n - length r; fits = true } ≡ head_of p n pool (by_op o (dispatch (map framed data_table) c) r)
+          Some (record { kind = kind.Plain c 0; next = n - length r; fits = true }) ≡ head_of p n pool (by_op o (dispatch (map framed data_table) c) r)
       go none q e = never_true e
       go (some x) q e =
           let f = found c (λ (o : Op). ltb (row_of o).code 0x80) short_ops x all_short q in

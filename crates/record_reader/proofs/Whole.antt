@@ -1,88 +1,104 @@
 -- A whole record: its code, its length and its data.
-use Prim.Native.Nat.{ℕ, ◌+◌, ◌-◌, ◌≤◌, ◌<◌}
-use mathlib.Core.Path.{◌≡◌, refl, ap, sym, ◌∙◌}
-use mathlib.Core.List.{[], ◌∷◌}
-use mathlib.Core.Bool.{true, false}
-use mathlib.Core.Option.{Option, none, some}
-use native.Mathlib.Omega.{arith}
-use lib.ListN.{length, take, drop, length-drop, drop_of_length-le}
-use lib.Seq.{take-add, drop_at, length-take-le}
+use Rattle.std.proofs.Common.{ℕ, zero, suc, ◌/◌, ◌+◌, ◌-◌, ◌≤◌, ◌<◌, ◌≡◌, refl, ap, sym, ◌∙◌, [], ◌∷◌, true, false, ◌⊎◌, inl, inr, Option, Some, None, arith, length, take, drop, length-drop, length-append, one-add}
+use mathlib.Core.Option as math
+use mathlib.Core.Option.{none, some}
+use lib.ListN.{drop_of_length-le}
 use borrow.Author.Tests.{le-leb, lt-leb}
-use Rattle.action_format.specs.Bytes.{Bytes}
-use Rattle.action_format.specs.Readers.{P, bind, read_byte, read_bytes, spent, read_inside, dispatch}
+use Rattle.std.proofs.lemmas.List.{take_rest}
+use Rattle.action_format.specs.Bytes.{Bytes, word}
+use Rattle.action_format.specs.Readers.{P, bind, read_byte, read_bytes, word_reader, spent, read_inside}
 use Rattle.action_format.specs.Decode.{Record, in_record, read_record}
-use Rattle.action_format.proofs.Readers.{◌also◌}
+use Rattle.action_format.proofs.Readers.{reads_byte, reads_word}
+use Rattle.record_reader.specs.declared.Content.{Content}
 use Rattle.record_reader.specs.declared.Head.{Head}
 use Rattle.record_reader.specs.declared.Kind.TheVariants as kind
-use Rattle.record_reader.specs.Heads.{nothing, head_of, head_at}
-use Rattle.record_reader.specs.Shape.{is_short, data_table, data_reader}
-use Rattle.record_reader.specs.Steps.{whole, head_in, IsByte, IsWord}
-use Rattle.record_reader.proofs.Positions.{short_at, nearer}
-use Rattle.record_reader.proofs.Data.{byte_first}
-use Rattle.record_reader.proofs.Tables.{dispatch_none, long_record, short_record}
+use Rattle.record_reader.specs.Heads.{head_of, head_at}
+use Rattle.record_reader.specs.Shape.{is_short, data_reader}
+use Rattle.record_reader.specs.Steps.{whole, content_of}
+use Rattle.record_reader.proofs.Tables.{long_record, short_record}
 
-pub drop_take : (q n : ℕ) (b : Bytes) → q ≤ length b → drop q (take (q + n) b) ≡ take n (drop q b)
-drop_take q n b h = rw (take-add q n b) (drop_at (take q b) (take n (drop q b)) q (length-take-le q b h))
+-- what follows a number
 
-inside : (rd : P Record) (d r : Bytes) (p n pool : ℕ) → head_of p n pool (read_inside rd d r) ≡ head_in p (n - length r) pool (whole (rd d))
+word_length : (k n : ℕ) → length (word k n) ≡ k
+unfolding word
+word_length zero n = refl
+word_length (suc k) n = rw (word_length k (n / 256))
+
+after_word : (k : ℕ) (d : Bytes) (n : ℕ) (r : Bytes) → word_reader k d ≡ some (n, r) → length d ≡ k + length r
+after_word k d n r e =
+    let s = (reads_word k).run d n r e in
+    ap length s.is ∙ length-append s.own r ∙ rw (s.fact.0, word_length k n)
+
+-- a record whose data are d, with r after them
+
+with_next : (n : ℕ) → Option Content → Option Head
+with_next n None = None
+with_next n (Some c) = Some (record { kind = c.kind; next = n; fits = c.fits })
+
+inside : (rd : P Record) (d r : Bytes) (p n pool : ℕ) → head_of p n pool (read_inside rd d r) ≡ with_next (n - length r) (content_of p pool (whole (rd d)))
+unfolding with_next
 inside rd d r p n pool = go (rd d)
   where
-    go : (o : Option (Record × Bytes)) → head_of p n pool (bind o (λ a left. spent a left r)) ≡ head_in p (n - length r) pool (whole o)
+    go : (o : math.Option (Record × Bytes)) → head_of p n pool (bind o (λ a left. spent a left r)) ≡ with_next (n - length r) (content_of p pool (whole o))
     go none = refl
     go (some (x, [])) = refl
     go (some (x, y ∷ left)) = refl
 
-pub head_none : (b : Bytes) (p pool : ℕ) {r : Head} → length b ≤ p → r ≡ nothing p → r ≡ head_at b p pool
+pub head_past : (b : Bytes) (p pool : ℕ) → (length b < p) ⊎ (length b < length b) → None ≡ head_at b p pool
 unfolding head_at read_record read_byte
-head_none b p pool h e = rw (drop_of_length-le b h) e
+head_past b p pool (inl h) = let k : length b ≤ p = omega arith in rw (drop_of_length-le b k)
+head_past b p pool (inr h) = absurd (omega arith)
 
-module _ {b : Bytes} {p c : ℕ} (pool : ℕ) (k : IsByte b p c) where
-  pub head_short : {r : Head} → p < length b → is_short c ≡ true → r ≡ record { kind = kind.Plain c 0; next = p + 1; fits = true } → r ≡ head_at b p pool
-  unfolding head_at
-  head_short h y e =
-      let n : length b - length (drop (p + 1) b) ≡ p + 1 = rw (length-drop (p + 1) b) (omega arith) in
-      rw (byte_first k)
-      (e ∙ ap (λ (m : ℕ). record { kind = kind.Plain c 0; next = m; fits = true }) (sym n) ∙ short_record c (drop (p + 1) b) k.small y p (length b) pool)
+module _ (b : Bytes) (p pool : ℕ) {d : Bytes} (e : d ≡ take (length b - p) (drop p b)) where
+  there : drop p b ≡ d
+  there = sym (e ∙ take_rest b p)
 
-  module _ (l : is_short c ≡ false) where
-    opened : read_record (drop p b) ≡ in_record (data_reader c) (drop (p + 1) b)
-    opened = rw (byte_first k) (long_record c (drop (p + 1) b) k.small l)
+  pub head_none : none ≡ read_byte d → None ≡ head_at b p pool
+  unfolding head_at read_record
+  head_none f = rw (there, ← f)
 
-    pub head_missing : {r : Head} → length b - p < 3 → r ≡ nothing p → r ≡ head_at b p pool
+  module _ {c : ℕ} {r : Bytes} (f : some (c, r) ≡ read_byte d) where
+    small : c < 256
+    small = (reads_byte.run d c r (sym f)).fact.1
+
+    first : drop p b ≡ c ∷ r
+    first = let s = reads_byte.run d c r (sym f) in there ∙ s.is ∙ rw s.fact.0
+
+    left : length b - p ≡ 1 + length r
+    left = sym (length-drop p b) ∙ ap length first ∙ sym (one-add (length r))
+
+    pub head_short : p ≤ length b → is_short c ≡ true → Some (record { kind = kind.Plain c 0; next = p + 1; fits = true }) ≡ head_at b p pool
     unfolding head_at
-    head_missing h e = rw (opened, short_at 2 b (p + 1) (omega arith)) e
+    head_short h y =
+        let n : length b - length r ≡ p + 1 = omega (arith, left) in
+        rw (first, ← n) (short_record c r small y p (length b) pool)
 
-    module _ {n : ℕ} (w : IsWord b (p + 1) n) where
-      after_size : read_record (drop p b) ≡ bind (read_bytes n (drop (p + 3) b)) (λ d. read_inside (data_reader c) d)
-      after_size = opened ∙ rw (w.is, nearer b (p + 1 + 2) (p + 3) (omega arith))
+    module _ (l : is_short c ≡ false) where
+      opened : read_record (drop p b) ≡ in_record (data_reader c) r
+      opened = rw first (long_record c r small l)
 
-      pub head_cut : {r : Head} → length b - p - 3 < n → r ≡ nothing p → r ≡ head_at b p pool
-      unfolding head_at read_bytes
-      head_cut h e = rw (after_size, lt-leb n (length (drop (p + 3) b)) (rw (length-drop (p + 3) b) (omega arith))) e
+      pub head_unsized : none ≡ word_reader 2 r → None ≡ head_at b p pool
+      unfolding head_at
+      head_unsized w = rw (opened, ← w)
 
-      pub head_data_lem : {r : Head} (d : Bytes) → p + 3 + n ≤ length b → d ≡ take (p + 3 + n) b →
-          r ≡ head_in p (length d) pool (whole (data_reader c (drop (p + 3) d))) → r ≡ head_at b p pool
-      unfolding head_at read_bytes
-      head_data_lem d h e f =
-          let m : length d ≡ p + 3 + n = rw e (length-take-le (p + 3 + n) b h) in
-          let l : length b - length (drop n (drop (p + 3) b)) ≡ length d = simp length-drop (omega arith) in
-          let t : take n (drop (p + 3) b) ≡ drop (p + 3) d = rw e (sym (drop_take (p + 3) n b (omega arith))) in
-          rw (after_size, le-leb n (length (drop (p + 3) b)) (rw (length-drop (p + 3) b) (omega arith)), inside (data_reader c) (take n (drop (p + 3) b)) (drop n (drop (p + 3) b)) p (length b) pool, l, t) f
+      module _ {n m : ℕ} {q : Bytes} (w : some (n, q) ≡ word_reader 2 r) (z : m ≡ n) where
+        pub head_cut : (m < 0) ⊎ (length q < m) → None ≡ head_at b p pool
+        unfolding head_at read_bytes
+        head_cut (inl h) = absurd (omega arith)
+        head_cut (inr h) = rw (opened, ← w, lt-leb n (length q) (omega arith))
 
--- the data's reader, by the code
+        module _ {x : Bytes} (i : x ≡ take (m - 0) q) (k : m ≤ length q) (h : p ≤ length b) where
+          with_data : head_at b p pool ≡ with_next (p + 3 + m) (content_of p pool (whole (data_reader c x)))
+          unfolding head_at read_bytes
+          with_data =
+              let l : length b - length (drop n q) ≡ p + 3 + m = omega (arith, left, after_word 2 r n q (sym w), length-drop n q) in
+              let t : take n q ≡ x = rw (i, ← z) (ap (λ (v : ℕ). take v q) (omega arith)) in
+              rw (opened, ← w, le-leb n (length q) (omega arith), inside (data_reader c) (take n q) (drop n q) p (length b) pool, l, t)
 
-module _ (p n pool c : ℕ) (x : Bytes) {r : Head} where
-  pub by_code : (k : ℕ) → c ≡ k → r ≡ head_in p n pool (whole (dispatch data_table k x)) → r ≡ head_in p n pool (whole (data_reader c x))
-  unfolding data_reader
-  by_code k e f = rw e f
+          pub head_broken : None ≡ content_of p pool (whole (data_reader c x)) → None ≡ head_at b p pool
+          unfolding with_next
+          head_broken g = rw (with_data, ← g)
 
-  pub other_code : r ≡ nothing p →
-      (((((((((((Unit {0} × (c ≡ 0x81 → ⊥)) × (c ≡ 0x87 → ⊥)) × (c ≡ 0x88 → ⊥)) × (c ≡ 0x8C → ⊥)) × (c ≡ 0x8E → ⊥)) × (c ≡ 0x96 → ⊥)) × (c ≡ 0x99 → ⊥)) × (c ≡ 0x9B → ⊥))
-      × (c ≡ 0x9D → ⊥)) × (c ≡ 0x9E → ⊥)) × (c ≡ 0x9F → ⊥)) →
-      r ≡ head_in p n pool (whole (data_reader c x))
-  unfolding data_reader
-  other_code e h =
-      let m = dispatch_none data_table c x
-      (h.0.1 also h.0.0.0.0.0.0.0.0.0.0.1 also h.0.0.0.0.0.0.0.0.0.1 also h.0.0.0.0.0.0.0.0.1 also h.0.0.0.0.0.0.0.1 also
-      h.0.0.0.0.0.0.1 also h.0.0.0.0.0.1 also h.0.0.0.0.1 also h.0.0.0.1 also h.0.0.1 also h.1 also tt) in
-      rw m e
+          pub head_whole : {t : Content} → Some t ≡ content_of p pool (whole (data_reader c x)) → Some (record { kind = t.kind; next = p + 3 + m; fits = t.fits }) ≡ head_at b p pool
+          unfolding with_next
+          head_whole g = rw (with_data, ← g)

@@ -1,6 +1,7 @@
 -- What is said of a record and of a pushed value, by what the definition reads there.
-use Rattle.std.specs.Prelude.{ℕ, ◌+◌, ◌-◌, Bool, true, false, ◌&&◌, length, drop}
-use Rattle.std.proofs.Math.Option.{Option, none, some}
+use Rattle.std.specs.Prelude.{ℕ, ◌+◌, ◌-◌, Bool, true, ◌&&◌, Option, Some, None, length, drop}
+use Rattle.std.proofs.Math.Option as math
+use Rattle.std.proofs.Math.Option.{none, some}
 use Rattle.utf8.specs.Utf8.{utf8}
 use Rattle.pcode.specs.Pcode.{Value, Plain, op, ConstantPool, StoreRegister, GotoFrame, GotoFrame2, GotoLabel}
 use Rattle.action_format.specs.Lists.{all, simple, pushing, branching}
@@ -14,6 +15,7 @@ use Rattle.list_slice.specs.Read.{chosen_at}
 use Rattle.record_reader.specs.declared.Kind.{Kind}
 use Rattle.record_reader.specs.declared.Kind.TheVariants as kind
 use Rattle.record_reader.specs.declared.Head.{Head}
+use Rattle.record_reader.specs.declared.PushedValue.{PushedValue}
 use Rattle.record_reader.specs.declared.ReadValue.{ReadValue}
 
 -- the record at position p, by its entry in a read list
@@ -46,28 +48,26 @@ record_holds_in pool (alone (pushing vs)) = (filled vs && all (value_fits pool) 
 record_holds_in pool (alone (branching b o)) = true
 record_holds_in pool (header h size) = header_fits h && all utf8 (header_strings h)
 
-abbrev pub nothing : (p : ℕ) → Head
-nothing p = record { kind = kind.Nothing; next = p; fits = false }
-
 -- what is read at position p of bytes of length n
-abbrev pub head_of : (p n pool : ℕ) → Option (Record × Bytes) → Head
-head_of p n pool none = nothing p
-head_of p n pool (some x) = record { kind = record_kind p x.0; next = n - length x.1; fits = record_holds_in pool x.0 }
+abbrev pub head_of : (p n pool : ℕ) → math.Option (Record × Bytes) → Option Head
+head_of p n pool none = None
+head_of p n pool (some x) = Some (record { kind = record_kind p x.0; next = n - length x.1; fits = record_holds_in pool x.0 })
 
-unfoldable pub head_at : Bytes → (p pool : ℕ) → Head
+unfoldable pub head_at : Bytes → (p pool : ℕ) → Option Head
 head_at b p pool = head_of p (length b) pool (read_record (drop p b))
 
 -- a value whose type stands at position p: its entry, with the base 0 for the code
 
-abbrev pub no_value : (p : ℕ) → ReadValue
-no_value p = record { read = false; code = 0; first = 0; second = 0; next = p; fits = false }
+abbrev pub with_entry : Entry → (fits : Bool) → PushedValue
+with_entry e t = record { code = e.code; first = e.first; second = e.second; fits = t }
 
-abbrev pub with_entry : Entry → (next : ℕ) → (fits : Bool) → ReadValue
-with_entry e n t = record { read = true; code = e.code; first = e.first; second = e.second; next = n; fits = t }
+-- a string stands at q
+abbrev pub pushed_value : (q pool : ℕ) → Value → PushedValue
+pushed_value q pool v = with_entry (value_entry 0 (pushed_of (λ s. q) v)) (value_holds pool v)
 
-abbrev pub value_of : (p n pool : ℕ) → Option (Value × Bytes) → ReadValue
-value_of p n pool none = no_value p
-value_of p n pool (some x) = with_entry (value_entry 0 (pushed_of (λ s. p + 1) x.0)) (n - length x.1) (value_holds pool x.0)
+abbrev pub value_of : (p n pool : ℕ) → math.Option (Value × Bytes) → Option ReadValue
+value_of p n pool none = None
+value_of p n pool (some x) = Some (record { value = pushed_value (p + 1) pool x.0; next = n - length x.1 })
 
-unfoldable pub value_at : Bytes → (p pool : ℕ) → ReadValue
+unfoldable pub value_at : Bytes → (p pool : ℕ) → Option ReadValue
 value_at b p pool = value_of p (length b) pool (read_value (drop p b))

@@ -3,7 +3,7 @@ use Rattle.std.specs.Prelude.{ℕ, List, [], ◌∷◌, Bool, true, false, eqb, 
 use Rattle.std.proofs.Math.Option.{Option, none, some}
 use Rattle.pcode.specs.declared.Op.{Op}
 use Rattle.pcode.specs.declared.Op.TheVariants.{Call}
-use Rattle.pcode.specs.Pcode.{Branching, Jump, If, op, StoreRegister, GotoFrame, GotoFrame2, GotoLabel, row_of, all_ops}
+use Rattle.pcode.specs.Pcode.{Jump, If, op, StoreRegister, GotoFrame, GotoFrame2, GotoLabel, row_of, all_ops}
 use Rattle.action_format.specs.Lists.{simple}
 use Rattle.action_format.specs.Readers.{P, ◌>>=◌, pure, read_byte, word_reader, read_string, read_flag, dispatch}
 use Rattle.action_format.specs.Decode.{Record, alone, read_pool, read_push, read_branch, read_function, read_function2}
@@ -44,10 +44,6 @@ abbrev pub read_play : P Record
 read_play = do
   p ← read_flag
   pure (alone (simple (GotoFrame2 p)))
-
-abbrev pub branching_of : (jump : Bool) → Branching
-branching_of true = Jump
-branching_of false = If
 
 abbrev pub data_table : List (ℕ × P Record)
 data_table =

@@ -1,16 +1,17 @@
 #![tactic(auto)]
 
 // Reads one record of action bytes, or one pushed value, at a position of lent bytes.
-ghost use Rattle.std.specs.Prelude.{◌≡◌, ◌+◌, ◌≤◌, length, drop};
+ghost use Rattle.std.specs.Prelude.{◌≡◌, ◌+◌, ◌<◌, ◌^◌};
 ghost use Rattle.record_reader.specs.Heads.{head_at};
 ghost use Rattle.record_reader.specs.Shape.{is_short, data_reader};
-ghost use Rattle.record_reader.specs.Steps.{whole, head_in};
+ghost use Rattle.record_reader.specs.Steps.{whole, content_of};
 
 use crate::functions::{function, function2};
-use crate::parts::{no_record, word};
+use crate::parts::{byte, word};
 use crate::plain::{branch, call, frame, label, play, pool_record, register};
 use crate::push::push;
 
+pub mod codes;
 mod functions;
 mod parts;
 mod plain;
@@ -20,8 +21,6 @@ pub mod values;
 // What a record is: an action whose entry is code, first, 0; or the counts and numbers that its entries are made of.
 #[derive(Clone, Copy)]
 pub enum Kind {
-    // No record can be read.
-    Nothing,
     Plain { code: u32, first: usize },
     Pool { strings: usize },
     Push { values: usize },
@@ -37,83 +36,92 @@ pub struct Head {
     pub fits: bool,
 }
 
-// The entry of a pushed value, with the base 0 in its code.
+// The entry of a pushed value, with the base 0 in its code; `fits` is false if it breaks a rule on lists.
 #[derive(Clone, Copy)]
-pub struct ReadValue {
-    pub read: bool,
+pub struct PushedValue {
     pub code: u32,
     pub first: usize,
     pub second: u32,
-    pub next: usize,
     pub fits: bool,
+}
+
+// A value ends before `next`.
+#[derive(Clone, Copy)]
+pub struct ReadValue {
+    pub value: PushedValue,
+    pub next: usize,
+}
+
+// What a record's data say, and whether they keep the rules on lists.
+#[derive(Clone, Copy)]
+struct Content {
+    kind: Kind,
+    fits: bool,
 }
 
 // Whether the code alone is a record: that of an action without operands, but Call.
 fn is_short(code: u8) -> bool
     ensures { result ≡ is_short code }
 {
-    match code {
+    matches!(
+        code,
         0x04..=0x09
-        | 0x0B..=0x0D
-        | 0x10..=0x15
-        | 0x17..=0x18
-        | 0x1C..=0x1D
-        | 0x21..=0x2B
-        | 0x30..=0x37
-        | 0x3A..=0x45
-        | 0x47..=0x4C
-        | 0x4E..=0x55
-        | 0x60..=0x68 => true,
-        _ => false,
-    }
+            | 0x0B..=0x0D
+            | 0x10..=0x15
+            | 0x17..=0x18
+            | 0x1C..=0x1D
+            | 0x21..=0x2B
+            | 0x30..=0x37
+            | 0x3A..=0x45
+            | 0x47..=0x4C
+            | 0x4E..=0x55
+            | 0x60..=0x68
+    )
 }
 
-// The record at `at`, whose data are the bytes from `at + 3` on.
-fn with_data(d: &[u8], code: u8, at: usize, pool: usize) -> Head
-    requires { at + 3 ≤ length d.now }
-    ensures { result ≡ head_in at (length d.now) pool (whole (data_reader code (drop (at + 3) d.now))) }
+// The record at `at` with this code and the data `d`; `pool` is the pool's count of strings.
+#[tactic(auto, unfolding(crate::specs::Shape::data_reader))]
+fn with_data(d: &[u8], code: u8, at: usize, pool: usize) -> Option<Content>
+    requires { at + 3 < 2 ^ 64 }
+    ensures { result ≡ content_of at pool (whole (data_reader code d.now)) }
 {
     match code {
-        0x81 => frame(d, at, pool),
-        0x87 => register(d, at, pool),
-        0x88 => pool_record(d, at, pool),
-        0x8C => label(d, at, pool),
-        0x8E => function2(d, at, pool),
-        0x96 => push(d, at, pool),
-        0x99 => branch(d, at, pool, true),
-        0x9B => function(d, at, pool),
-        0x9D => branch(d, at, pool, false),
-        0x9E => call(d, at, pool),
-        0x9F => play(d, at, pool),
-        _ => no_record(at),
+        codes::GOTO_FRAME => frame(d),
+        codes::STORE_REGISTER => register(d),
+        codes::CONSTANT_POOL => pool_record(d),
+        codes::GOTO_LABEL => label(d, at),
+        codes::DEFINE_FUNCTION2 => function2(d),
+        codes::PUSH => push(d, pool),
+        codes::JUMP | codes::IF => branch(d, code),
+        codes::DEFINE_FUNCTION => function(d),
+        codes::CALL => call(d),
+        codes::GOTO_FRAME2 => play(d),
+        _ => None,
     }
 }
 
 // The record that begins at `at` and ends inside the bytes; `pool` is the pool's count of strings.
-pub fn head_at(b: &[u8], at: usize, pool: usize) -> Head
+pub fn head_at(b: &[u8], at: usize, pool: usize) -> Option<Head>
     ensures { result ≡ head_at b.now at pool }
 {
-    if b.len() <= at {
-        return no_record(at);
-    }
-    let code = b[at];
+    let (code, rest) = byte(b.get(at..)?)?;
     if is_short(code) {
-        return Head {
-            kind: Kind::Plain {
-                code: code as u32,
-                first: 0,
-            },
+        let kind = Kind::Plain {
+            code: u32::from(code),
+            first: 0,
+        };
+        return Some(Head {
+            kind,
             next: at + 1,
             fits: true,
-        };
+        });
     }
-    if b.len() - at < 3 {
-        return no_record(at);
-    }
-    let size = word(b, at + 1);
-    if b.len() - at - 3 < size {
-        return no_record(at);
-    }
-    let end = at + 3 + size;
-    with_data(&b[..end], code, at, pool)
+    let (size, rest) = word(rest)?;
+    let size = usize::from(size);
+    let Content { kind, fits } = with_data(rest.get(..size)?, code, at, pool)?;
+    Some(Head {
+        kind,
+        next: at + 3 + size,
+        fits,
+    })
 }

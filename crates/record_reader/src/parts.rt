@@ -1,159 +1,115 @@
-// Numbers and strings, and as many strings or parameters as a count says.
-ghost use Rattle.std.specs.Prelude.{◌≡◌, ◌&&◌, ◌+◌, ◌≤◌, ◌<◌, length, drop};
+// Readers of numbers and strings. Each answers what it read off the front of the bytes, and the bytes left.
+ghost use Rattle.std.specs.Prelude.{◌≡◌, ◌==◌, Bool};
+ghost use Rattle.std.specs.List.{position};
 ghost use Rattle.utf8.specs.Utf8.{utf8};
 ghost use Rattle.action_format.specs.Lists.{all};
-ghost use Rattle.action_format.specs.Readers.{read_string, read_many};
+ghost use Rattle.action_format.specs.Readers.{P, read_byte, word_reader, read_flag, read_string, read_many};
 ghost use Rattle.action_format.specs.Decode.{read_param};
-ghost use Rattle.record_reader.specs.Heads.{nothing};
-ghost use Rattle.record_reader.specs.Steps.{IsByte, IsWord, IsLong, EndsAt, Steps, param_holds};
+ghost use Rattle.record_reader.specs.Steps.{taken, judged, itself, some_of, whole, param_holds};
 
-use crate::{Head, Kind};
 use utf8::is_utf8;
 
-// Whether something was read, the position after it, and whether its strings are UTF-8.
-#[derive(Clone, Copy)]
-pub struct Step {
-    pub read: bool,
-    pub next: usize,
-    pub fits: bool,
+pub fn byte(b: &[u8]) -> Option<(u8, &[u8])>
+    ensures { taken result ≡ read_byte b.now }
+{
+    let [n, rest @ ..] = b else {
+        return None;
+    };
+    Some((*n, rest))
 }
 
-// What is said where no record can be read.
-pub fn no_record(at: usize) -> Head
-    ensures { result ≡ nothing at }
+pub fn word(b: &[u8]) -> Option<(u16, &[u8])>
+    ensures { taken result ≡ word_reader 2 b.now }
 {
-    Head {
-        kind: Kind::Nothing,
-        next: at,
-        fits: false,
+    let [low, high, rest @ ..] = b else {
+        return None;
+    };
+    Some((u16::from_le_bytes([*low, *high]), rest))
+}
+
+pub fn long(b: &[u8]) -> Option<(u32, &[u8])>
+    ensures { taken result ≡ word_reader 4 b.now }
+{
+    let [b0, b1, b2, b3, rest @ ..] = b else {
+        return None;
+    };
+    Some((u32::from_le_bytes([*b0, *b1, *b2, *b3]), rest))
+}
+
+// A flag is 0 or 1.
+pub fn flag(b: &[u8]) -> Option<(bool, &[u8])>
+    ensures { taken result ≡ read_flag b.now }
+{
+    match b {
+        [0, rest @ ..] => Some((false, rest)),
+        [1, rest @ ..] => Some((true, rest)),
+        _ => None,
     }
 }
 
-pub fn byte(b: &[u8], at: usize) -> usize
-    requires { at < length b.now }
-    ensures { IsByte b.now at result }
+// Where the first zero byte is.
+fn zero_byte(b: &[u8]) -> Option<usize>
+    ensures { result ≡ position (λ x. x == 0) b.now }
 {
-    b[at] as usize
+    b.iter().position(|x| *x == 0)
 }
 
-// Two bytes.
-pub fn word(b: &[u8], at: usize) -> usize
-    requires { at + 2 ≤ length b.now }
-    ensures { IsWord b.now at result }
+// A string up to its zero byte: whether it is UTF-8.
+pub fn string(b: &[u8]) -> Option<(bool, &[u8])>
+    ensures { taken result ≡ judged utf8 (read_string b.now) }
 {
-    let low = byte(b, at);
-    let high = byte(b, at + 1);
-    low + high * 256
+    let end = zero_byte(b)?;
+    Some((is_utf8(&b[..end]), &b[end + 1..]))
 }
 
-// Four bytes.
-pub fn long(b: &[u8], at: usize) -> usize
-    requires { at + 4 ≤ length b.now }
-    ensures { IsLong b.now at result }
-{
-    let low = word(b, at);
-    let high = word(b, at + 2);
-    low + high * 65536
+// What a record can have a count of: strings or parameters.
+pub trait Counted {
+    ghost reader: { P Bool };
+
+    fn read(b: &[u8]) -> Option<(bool, &[u8])>
+        ensures { taken result ≡ reader b.now };
 }
 
-// The position of the first zero byte from `at` on, or the end.
-fn string_end(b: &[u8], at: usize) -> usize
-    requires { at ≤ length b.now }
-    ensures { EndsAt b.now at result }
-{
-    let mut i = at;
-    while i < b.len() {
-        if b[i] == 0 {
-            return i;
-        }
-        i += 1;
-    }
-    i
-}
+pub struct Name;
 
-pub fn string(b: &[u8], at: usize) -> Step
-    requires { at ≤ length b.now }
-    ensures { Steps (read_string (drop at b.now)) b.now utf8 at result }
-{
-    let end = string_end(b, at);
-    if b.len() <= end {
-        return Step {
-            read: false,
-            next: at,
-            fits: false,
-        };
-    }
-    Step {
-        read: true,
-        next: end + 1,
-        fits: is_utf8(&b[at..end]),
+impl Counted for Name {
+    ghost reader = { λ b. judged utf8 (read_string b) };
+
+    fn read(b: &[u8]) -> Option<(bool, &[u8])> {
+        string(b)
     }
 }
 
-// A parameter of DefineFunction2: its register, then its name.
-fn param(b: &[u8], at: usize) -> Step
-    requires { at ≤ length b.now }
-    ensures { Steps (read_param (drop at b.now)) b.now param_holds at result }
-{
-    if at < b.len() {
-        return string(b, at + 1);
-    }
-    Step {
-        read: false,
-        next: at,
-        fits: false,
+// A parameter of DefineFunction2: its register, and its name.
+pub struct Param;
+
+impl Counted for Param {
+    ghost reader = { λ b. judged param_holds (read_param b) };
+
+    fn read(b: &[u8]) -> Option<(bool, &[u8])> {
+        let (_register, rest) = byte(b)?;
+        string(rest)
     }
 }
 
-// Whether both hold.
-pub fn both(a: bool, b: bool) -> bool
-    ensures { result ≡ (a && b) }
+// So many of them: whether all keep the rules.
+pub fn many<T: Counted>(b: &[u8], count: u16) -> Option<(bool, &[u8])>
+    ensures { taken result ≡ judged (all itself) (read_many T.reader count b.now) }
 {
-    if a { b } else { false }
-}
-
-pub fn strings(b: &[u8], at: usize, count: usize) -> Step
-    requires { at ≤ length b.now }
-    ensures { Steps (read_many read_string count (drop at b.now)) b.now (all utf8) at result }
-{
-    let mut next = at;
+    let mut rest = b;
     let mut fits = true;
-    let mut i: usize = 0;
-    while i < count {
-        let one = string(b, next);
-        if !one.read {
-            return one;
-        }
-        next = one.next;
-        fits = both(fits, one.fits);
-        i += 1;
+    for _ in 0..count {
+        let (one, after) = T::read(rest)?;
+        fits &= one;
+        rest = after;
     }
-    Step {
-        read: true,
-        next,
-        fits,
-    }
+    Some((fits, rest))
 }
 
-pub fn params(b: &[u8], at: usize, count: usize) -> Step
-    requires { at ≤ length b.now }
-    ensures { Steps (read_many read_param count (drop at b.now)) b.now (all param_holds) at result }
+// What was read, if no bytes are left.
+pub fn whole<T: Copy>(read: Option<(T, &[u8])>) -> Option<T>
+    ensures { result ≡ some_of (whole (taken read.entry)) }
 {
-    let mut next = at;
-    let mut fits = true;
-    let mut i: usize = 0;
-    while i < count {
-        let one = param(b, next);
-        if !one.read {
-            return one;
-        }
-        next = one.next;
-        fits = both(fits, one.fits);
-        i += 1;
-    }
-    Step {
-        read: true,
-        next,
-        fits,
-    }
+    let (x, rest) = read?;
+    if rest.is_empty() { Some(x) } else { None }
 }

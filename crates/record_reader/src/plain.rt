@@ -1,161 +1,86 @@
-// Records with few data. Each function reads the data of a record at `at`, which are all the bytes from `at + 3` on.
-ghost use Rattle.std.specs.Prelude.{◌≡◌, ◌+◌, ◌≤◌, length, drop};
+// Records with few data, which are all of `d`.
+ghost use Rattle.std.specs.Prelude.{◌≡◌, ◌+◌, ◌<◌, ◌^◌, ℕ};
+ghost use Rattle.pcode.specs.Pcode.{Branching};
 ghost use Rattle.action_format.specs.Decode.{read_pool, read_branch};
-ghost use Rattle.record_reader.specs.Shape.{read_call, read_frame, read_register, read_label, read_play, branching_of};
-ghost use Rattle.record_reader.specs.Steps.{whole, head_in};
+ghost use Rattle.list_slice.specs.Entry.{branch_code};
+ghost use Rattle.record_reader.specs.Shape.{read_call, read_frame, read_register, read_label, read_play};
+ghost use Rattle.record_reader.specs.Steps.{whole, content_of};
 
-use crate::parts::{byte, no_record, string, strings, word};
-use crate::{Head, Kind};
+use crate::parts::{Name, byte, flag, many, string, whole, word};
+use crate::{Content, Kind, codes};
 
-pub fn call(d: &[u8], at: usize, pool: usize) -> Head
-    requires { at + 3 ≤ length d.now }
-    ensures { result ≡ head_in at (length d.now) pool (whole (read_call (drop (at + 3) d.now))) }
+fn plain(code: u8, first: usize, fits: bool) -> Content
+    ensures kind { result.kind ≡ Kind.Plain code first }
+    ensures fits { result.fits ≡ fits }
 {
-    let from = at + 3;
-    if from < d.len() {
-        return no_record(at);
+    let kind = Kind::Plain {
+        code: u32::from(code),
+        first,
+    };
+    Content { kind, fits }
+}
+
+pub fn call(d: &[u8]) -> Option<Content>
+    ensures { (at pool : ℕ) → result ≡ content_of at pool (whole (read_call d.now)) }
+{
+    if d.is_empty() {
+        Some(plain(codes::CALL, 0, true))
+    } else {
+        None
     }
-    Head {
-        kind: Kind::Plain {
-            code: 0x9E,
-            first: 0,
+}
+
+pub fn frame(d: &[u8]) -> Option<Content>
+    ensures { (at pool : ℕ) → result ≡ content_of at pool (whole (read_frame d.now)) }
+{
+    let n = whole(word(d))?;
+    Some(plain(codes::GOTO_FRAME, usize::from(n), true))
+}
+
+pub fn register(d: &[u8]) -> Option<Content>
+    ensures { (at pool : ℕ) → result ≡ content_of at pool (whole (read_register d.now)) }
+{
+    let r = whole(byte(d))?;
+    Some(plain(codes::STORE_REGISTER, usize::from(r), true))
+}
+
+pub fn play(d: &[u8]) -> Option<Content>
+    ensures { (at pool : ℕ) → result ≡ content_of at pool (whole (read_play d.now)) }
+{
+    let p = whole(flag(d))?;
+    Some(plain(codes::GOTO_FRAME2, usize::from(p), true))
+}
+
+// The string of a record at `at` stands three bytes further.
+pub fn label(d: &[u8], at: usize) -> Option<Content>
+    requires { at + 3 < 2 ^ 64 }
+    ensures { (pool : ℕ) → result ≡ content_of at pool (whole (read_label d.now)) }
+{
+    let fits = whole(string(d))?;
+    Some(plain(codes::GOTO_LABEL, at + 3, fits))
+}
+
+// A Jump or an If, as its code says.
+pub fn branch(d: &[u8], code: u8) -> Option<Content>
+    ensures { (b : Branching) (at pool : ℕ) → code ≡ branch_code b → result ≡ content_of at pool (whole (read_branch b d.now)) }
+{
+    let offset = usize::from(whole(word(d))?);
+    let kind = Kind::Branch {
+        code: u32::from(code),
+        offset,
+    };
+    Some(Content { kind, fits: true })
+}
+
+pub fn pool_record(d: &[u8]) -> Option<Content>
+    ensures { (at pool : ℕ) → result ≡ content_of at pool (whole (read_pool d.now)) }
+{
+    let (count, rest) = word(d)?;
+    let fits = whole(many::<Name>(rest, count))?;
+    Some(Content {
+        kind: Kind::Pool {
+            strings: usize::from(count),
         },
-        next: d.len(),
-        fits: true,
-    }
-}
-
-pub fn frame(d: &[u8], at: usize, pool: usize) -> Head
-    requires { at + 3 ≤ length d.now }
-    ensures { result ≡ head_in at (length d.now) pool (whole (read_frame (drop (at + 3) d.now))) }
-{
-    let from = at + 3;
-    if d.len() - from < 2 {
-        return no_record(at);
-    }
-    let n = word(d, from);
-    if 2 < d.len() - from {
-        return no_record(at);
-    }
-    Head {
-        kind: Kind::Plain {
-            code: 0x81,
-            first: n,
-        },
-        next: d.len(),
-        fits: true,
-    }
-}
-
-pub fn register(d: &[u8], at: usize, pool: usize) -> Head
-    requires { at + 3 ≤ length d.now }
-    ensures { result ≡ head_in at (length d.now) pool (whole (read_register (drop (at + 3) d.now))) }
-{
-    let from = at + 3;
-    if d.len() <= from {
-        return no_record(at);
-    }
-    let r = byte(d, from);
-    if 1 < d.len() - from {
-        return no_record(at);
-    }
-    Head {
-        kind: Kind::Plain {
-            code: 0x87,
-            first: r,
-        },
-        next: d.len(),
-        fits: true,
-    }
-}
-
-pub fn play(d: &[u8], at: usize, pool: usize) -> Head
-    requires { at + 3 ≤ length d.now }
-    ensures { result ≡ head_in at (length d.now) pool (whole (read_play (drop (at + 3) d.now))) }
-{
-    let from = at + 3;
-    if d.len() <= from {
-        return no_record(at);
-    }
-    let p = byte(d, from);
-    if 1 < p {
-        return no_record(at);
-    }
-    if 1 < d.len() - from {
-        return no_record(at);
-    }
-    Head {
-        kind: Kind::Plain {
-            code: 0x9F,
-            first: p,
-        },
-        next: d.len(),
-        fits: true,
-    }
-}
-
-pub fn label(d: &[u8], at: usize, pool: usize) -> Head
-    requires { at + 3 ≤ length d.now }
-    ensures { result ≡ head_in at (length d.now) pool (whole (read_label (drop (at + 3) d.now))) }
-{
-    let from = at + 3;
-    let s = string(d, from);
-    if !s.read {
-        return no_record(at);
-    }
-    if s.next < d.len() {
-        return no_record(at);
-    }
-    Head {
-        kind: Kind::Plain {
-            code: 0x8C,
-            first: from,
-        },
-        next: d.len(),
-        fits: s.fits,
-    }
-}
-
-// A Jump, or else an If.
-pub fn branch(d: &[u8], at: usize, pool: usize, jump: bool) -> Head
-    requires { at + 3 ≤ length d.now }
-    ensures { result ≡ head_in at (length d.now) pool (whole (read_branch (branching_of jump) (drop (at + 3) d.now))) }
-{
-    let from = at + 3;
-    if d.len() - from < 2 {
-        return no_record(at);
-    }
-    let offset = word(d, from);
-    if 2 < d.len() - from {
-        return no_record(at);
-    }
-    let code: u32 = if jump { 0x99 } else { 0x9D };
-    Head {
-        kind: Kind::Branch { code, offset },
-        next: d.len(),
-        fits: true,
-    }
-}
-
-pub fn pool_record(d: &[u8], at: usize, pool: usize) -> Head
-    requires { at + 3 ≤ length d.now }
-    ensures { result ≡ head_in at (length d.now) pool (whole (read_pool (drop (at + 3) d.now))) }
-{
-    let from = at + 3;
-    if d.len() - from < 2 {
-        return no_record(at);
-    }
-    let count = word(d, from);
-    let s = strings(d, from + 2, count);
-    if !s.read {
-        return no_record(at);
-    }
-    if s.next < d.len() {
-        return no_record(at);
-    }
-    Head {
-        kind: Kind::Pool { strings: count },
-        next: d.len(),
-        fits: s.fits,
-    }
+        fits,
+    })
 }

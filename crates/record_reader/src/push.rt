@@ -1,32 +1,25 @@
 // A Push: as many values as its data are.
-ghost use Rattle.std.specs.Prelude.{◌≡◌, ◌+◌, ◌≤◌, length, drop};
+ghost use Rattle.std.specs.Prelude.{◌≡◌, ℕ};
 ghost use Rattle.action_format.specs.Decode.{read_push};
-ghost use Rattle.record_reader.specs.Steps.{whole, head_in};
+ghost use Rattle.record_reader.specs.Steps.{whole, content_of};
 
-use crate::parts::{both, no_record};
 use crate::values::value;
-use crate::{Head, Kind};
+use crate::{Content, Kind};
 
-pub fn push(d: &[u8], at: usize, pool: usize) -> Head
-    requires { at + 3 ≤ length d.now }
-    ensures { result ≡ head_in at (length d.now) pool (whole (read_push (drop (at + 3) d.now))) }
+pub fn push(d: &[u8], pool: usize) -> Option<Content>
+    ensures { (at : ℕ) → result ≡ content_of at pool (whole (read_push d.now)) }
 {
-    let mut next = at + 3;
+    let mut next = 0;
     let mut fits = true;
     let mut count: usize = 0;
     while next < d.len() {
-        let v = value(d, next, pool);
-        if !v.read {
-            return no_record(at);
-        }
+        let v = value(d, next, pool)?;
         next = v.next;
-        fits = both(fits, v.fits);
+        fits &= v.value.fits;
         count += 1;
     }
-    let filled = 0 < count;
-    Head {
+    Some(Content {
         kind: Kind::Push { values: count },
-        next: d.len(),
-        fits: both(filled, fits),
-    }
+        fits: (0 < count) & fits,
+    })
 }

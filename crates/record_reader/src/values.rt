@@ -1,148 +1,110 @@
-// Pushed values. But for `value`, each function reads the value after a type that stands at `at`.
-ghost use Rattle.std.specs.Prelude.{◌≡◌, ◌+◌, ◌≤◌, length, drop};
+// Pushed values. But for `value`, each function reads the value after its type, and answers it and the bytes left.
+ghost use Rattle.std.specs.Prelude.{◌≡◌, ℕ, true, ltb};
 ghost use Rattle.action_format.specs.Readers.{dispatch};
 ghost use Rattle.action_format.specs.Decode.{value_readers};
-ghost use Rattle.list_slice.specs.Entry.{entry};
-ghost use Rattle.record_reader.specs.Heads.{value_at, value_of, no_value, with_entry};
+ghost use Rattle.record_reader.specs.Heads.{value_at};
+ghost use Rattle.record_reader.specs.Steps.{taken, pushed_of};
 
-use crate::ReadValue;
-use crate::parts::{byte, long, string, word};
+use crate::parts::{byte, flag, long, string, word};
+use crate::{PushedValue, ReadValue};
 
-fn none(at: usize) -> ReadValue
-    ensures { result ≡ no_value at }
+fn pushed(code: u32, first: usize) -> PushedValue
+    ensures { result ≡ record { code = code; first = first; second = 0; fits = true } }
 {
-    ReadValue {
-        read: false,
-        code: 0,
-        first: 0,
-        second: 0,
-        next: at,
-        fits: false,
-    }
-}
-
-fn found(code: u32, first: usize, second: u32, next: usize, fits: bool) -> ReadValue
-    ensures { result ≡ with_entry (entry code first second) next fits }
-{
-    ReadValue {
-        read: true,
+    PushedValue {
         code,
         first,
-        second,
-        next,
-        fits,
+        second: 0,
+        fits: true,
     }
 }
 
-fn string_value(b: &[u8], at: usize, pool: usize) -> ReadValue
-    requires { at + 1 ≤ length b.now }
-    ensures { result ≡ value_of at (length b.now) pool (dispatch value_readers 0 (drop (at + 1) b.now)) }
+fn constant(i: usize, pool: usize) -> PushedValue
+    ensures { result ≡ record { code = 8; first = i; second = 0; fits = ltb i pool } }
 {
-    let from = at + 1;
-    let s = string(b, from);
-    if !s.read {
-        return none(at);
+    PushedValue {
+        fits: i < pool,
+        ..pushed(8, i)
     }
-    found(0, from, 0, s.next, s.fits)
-}
-
-fn register_value(b: &[u8], at: usize, pool: usize) -> ReadValue
-    requires { at + 1 ≤ length b.now }
-    ensures { result ≡ value_of at (length b.now) pool (dispatch value_readers 4 (drop (at + 1) b.now)) }
-{
-    let from = at + 1;
-    if b.len() <= from {
-        return none(at);
-    }
-    let r = byte(b, from);
-    found(4, r, 0, from + 1, true)
-}
-
-fn boolean_value(b: &[u8], at: usize, pool: usize) -> ReadValue
-    requires { at + 1 ≤ length b.now }
-    ensures { result ≡ value_of at (length b.now) pool (dispatch value_readers 5 (drop (at + 1) b.now)) }
-{
-    let from = at + 1;
-    if b.len() <= from {
-        return none(at);
-    }
-    let t = byte(b, from);
-    if 1 < t {
-        return none(at);
-    }
-    found(5, t, 0, from + 1, true)
-}
-
-fn float_value(b: &[u8], at: usize, pool: usize) -> ReadValue
-    requires { at + 1 ≤ length b.now }
-    ensures { result ≡ value_of at (length b.now) pool (dispatch value_readers 6 (drop (at + 1) b.now)) }
-{
-    let from = at + 1;
-    if b.len() - from < 8 {
-        return none(at);
-    }
-    let low = long(b, from);
-    let high = long(b, from + 4);
-    found(6, low, high as u32, from + 8, true)
-}
-
-fn integer_value(b: &[u8], at: usize, pool: usize) -> ReadValue
-    requires { at + 1 ≤ length b.now }
-    ensures { result ≡ value_of at (length b.now) pool (dispatch value_readers 7 (drop (at + 1) b.now)) }
-{
-    let from = at + 1;
-    if b.len() - from < 4 {
-        return none(at);
-    }
-    let n = long(b, from);
-    found(7, n, 0, from + 4, true)
-}
-
-fn narrow_constant(b: &[u8], at: usize, pool: usize) -> ReadValue
-    requires { at + 1 ≤ length b.now }
-    ensures { result ≡ value_of at (length b.now) pool (dispatch value_readers 8 (drop (at + 1) b.now)) }
-{
-    let from = at + 1;
-    if b.len() <= from {
-        return none(at);
-    }
-    let i = byte(b, from);
-    found(8, i, 0, from + 1, i < pool)
 }
 
 // An index below 256 takes one byte.
-fn wide_constant(b: &[u8], at: usize, pool: usize) -> ReadValue
-    requires { at + 1 ≤ length b.now }
-    ensures { result ≡ value_of at (length b.now) pool (dispatch value_readers 9 (drop (at + 1) b.now)) }
+fn wide_constant(d: &[u8], pool: usize) -> Option<(PushedValue, &[u8])>
+    ensures { (at : ℕ) → taken result ≡ pushed_of at pool (dispatch value_readers 9 d.now) }
 {
-    let from = at + 1;
-    if b.len() - from < 2 {
-        return none(at);
-    }
-    let i = word(b, from);
+    let (i, rest) = word(d)?;
     if i < 256 {
-        return none(at);
+        return None;
     }
-    found(8, i, 0, from + 2, i < pool)
+    Some((constant(usize::from(i), pool), rest))
+}
+
+fn float(d: &[u8]) -> Option<(PushedValue, &[u8])>
+    ensures { (at pool : ℕ) → taken result ≡ pushed_of at pool (dispatch value_readers 6 d.now) }
+{
+    let (low, rest) = long(d)?;
+    let (second, rest) = long(rest)?;
+    Some((
+        PushedValue {
+            second,
+            ..pushed(6, low as usize)
+        },
+        rest,
+    ))
+}
+
+// A string stands at `at`.
+fn string_value(d: &[u8], at: usize) -> Option<(PushedValue, &[u8])>
+    ensures { (pool : ℕ) → taken result ≡ pushed_of at pool (dispatch value_readers 0 d.now) }
+{
+    let (fits, rest) = string(d)?;
+    Some((
+        PushedValue {
+            fits,
+            ..pushed(0, at)
+        },
+        rest,
+    ))
+}
+
+// The value of a type, at `at`: a string, null, undefined, a register, a boolean, a float, an integer, or a constant's index in one byte or two.
+fn typed(kind: u8, d: &[u8], at: usize, pool: usize) -> Option<(PushedValue, &[u8])>
+    ensures { taken result ≡ pushed_of at pool (dispatch value_readers kind d.now) }
+{
+    match kind {
+        0 => string_value(d, at),
+        2 => Some((pushed(2, 0), d)),
+        3 => Some((pushed(3, 0), d)),
+        4 => {
+            let (r, rest) = byte(d)?;
+            Some((pushed(4, usize::from(r)), rest))
+        }
+        5 => {
+            let (t, rest) = flag(d)?;
+            Some((pushed(5, usize::from(t)), rest))
+        }
+        6 => float(d),
+        7 => {
+            let (n, rest) = long(d)?;
+            Some((pushed(7, n as usize), rest))
+        }
+        8 => {
+            let (i, rest) = byte(d)?;
+            Some((constant(usize::from(i), pool), rest))
+        }
+        9 => wide_constant(d, pool),
+        _ => None,
+    }
 }
 
 // The value whose type stands at `at` and that ends inside the bytes; `pool` is the pool's count of strings.
-pub fn value(b: &[u8], at: usize, pool: usize) -> ReadValue
+pub fn value(b: &[u8], at: usize, pool: usize) -> Option<ReadValue>
     ensures { result ≡ value_at b.now at pool }
 {
-    if b.len() <= at {
-        return none(at);
-    }
-    match b[at] {
-        0 => string_value(b, at, pool),
-        2 => found(2, 0, 0, at + 1, true),
-        3 => found(3, 0, 0, at + 1, true),
-        4 => register_value(b, at, pool),
-        5 => boolean_value(b, at, pool),
-        6 => float_value(b, at, pool),
-        7 => integer_value(b, at, pool),
-        8 => narrow_constant(b, at, pool),
-        9 => wide_constant(b, at, pool),
-        _ => none(at),
-    }
+    let (kind, d) = byte(b.get(at..)?)?;
+    let (value, rest) = typed(kind, d, at + 1, pool)?;
+    Some(ReadValue {
+        value,
+        next: b.len() - rest.len(),
+    })
 }

@@ -10,6 +10,8 @@ use native.Mathlib.Decide.{dec_lt}
 use lib.Dec.{T}
 use lib.ListN.{length, get_or, get_elem?, length-map, get_or-eq_default}
 use borrow.Author.Tests.{eq-eqb, ne_eqb}
+use Rattle.std.specs.Prelude.{Result}
+use Rattle.refusal.specs.declared.Refusal.{Refusal}
 use Rattle.pcode.specs.Pcode.{Branching, Action, Item, plain, push, branch, define, action, mark}
 use Rattle.script.specs.Write.{Bytes}
 use Rattle.script.proofs.WrittenRows.{first, second}
@@ -25,11 +27,11 @@ use Rattle.action_format.proofs.Refusals.{short_by_actions, near_by_actions}
 use Rattle.list_slice.specs.Entry.{Piece}
 use Rattle.definition.specs.Outcome.{by_place}
 use Rattle.definition.specs.Demand3.{list_at}
-use Rattle.resolver.specs.declared.Answer.{Answer}
 use Rattle.resolver.specs.Lowered.{Lowered}
 use Rattle.resolver.specs.Walk.{count_of, index_of, list_from, list_end, piece_at}
 use Rattle.resolver.specs.Sizes.{short_of, all_short, all_clear}
 use Rattle.resolver.specs.Steps.{near_item, all_near_in}
+use Rattle.resolver.specs.Passes as answered
 use Rattle.resolver.specs.Passes.{walked_at, number_at, sizes_at, near_list, nearLists, Done, too_long, too_far, resolved, clear_lists, Answered, zero_byte, passed}
 use Rattle.resolver.specs.Resolved.{place_at, Tables, Resolves, refused, good}
 use Rattle.resolver.proofs.Whole.{split, lists_count, walked_list}
@@ -339,11 +341,11 @@ module _ {F w : List ℕ} (h : Lowered F w) (bytes : Bytes F) where
   some-list = omega (arith, lists_count h)
 
   -- the answer is the definition's
-  pub resolves : {sizes offsets : List ℕ} {r : Answer} → Answered (sized h bytes) sizes offsets r → Resolves F w h.lists sizes offsets r
+  pub resolves : {sizes offsets : List ℕ} {r : Result ℕ Refusal} → Answered (sized h bytes) sizes offsets r → Resolves F w h.lists sizes offsets r
   unfolding encode
-  resolves (zero_byte e) = refused {n = 9} (λ room. rw (clear-false e))
-  resolves (passed c (too_long j b e)) = refused {n = 10} (λ room. rw (is_true (zero_free l) (clear-true c), short-false j b e))
-  resolves (passed c (too_far d)) =
-      refused {n = 11} (λ room. rw (is_true (zero_free l) (clear-true c), is_true (short (code l)) (short_true d.short), near-false (sym d.near_are)))
+  resolves (zero_byte e) = refused (λ room. rw (clear-false e))
+  resolves (answered.refused c (too_long j b e)) = refused (λ room. rw (is_true (zero_free l) (clear-true c), short-false j b e))
+  resolves (answered.refused c (too_far d)) =
+      refused (λ room. rw (is_true (zero_free l) (clear-true c), is_true (short (code l)) (short_true d.short), near-false (sym d.near_are)))
   resolves (passed c (resolved d)) =
       good (record { tables = tables d; no_zeros = clear-true c; is_short = short_true d.short; is_near = near-true (sym d.near_are) }) (size-of-list d 0 some-list)

@@ -25,10 +25,6 @@ use Rattle.resolver.specs.Texts.{data_of, string_data, pool_data, constant_data,
 use Rattle.resolver.proofs.OpCodes.{op_code, OpCode, op_says}
 use Rattle.resolver.proofs.Texts.{join_size, texts_clear}
 
--- a kind that is none of the table's
-pub kind_rest : (F w : List ℕ) (k a b : ℕ) → (((((((((((((((Unit {0} × (k ≡ 0x81 → ⊥)) × (k ≡ 0x87 → ⊥)) × (k ≡ 0x88 → ⊥)) × (k ≡ 0x8C → ⊥)) × (k ≡ 0x99 → ⊥)) × (k ≡ 0x9D → ⊥)) × (k ≡ 0x9F → ⊥)) × (k ≡ 256 → ⊥)) × (k ≡ 0x110 → ⊥)) × (k ≡ 0x112 → ⊥)) × (k ≡ 0x113 → ⊥)) × (k ≡ 0x114 → ⊥)) × (k ≡ 0x115 → ⊥)) × (k ≡ 0x116 → ⊥)) × (k ≡ 0x117 → ⊥)) × (k ≡ 0x118 → ⊥) → fixed_data 0 ≡ data_in F w k a b
-kind_rest F w k a b h = rw (ne_eqb k 0x81 h.0.0.0.0.0.0.0.0.0.0.0.0.0.0.0.1, ne_eqb k 0x87 h.0.0.0.0.0.0.0.0.0.0.0.0.0.0.1, ne_eqb k 0x88 h.0.0.0.0.0.0.0.0.0.0.0.0.0.1, ne_eqb k 0x8C h.0.0.0.0.0.0.0.0.0.0.0.0.1, ne_eqb k 0x99 h.0.0.0.0.0.0.0.0.0.0.0.1, ne_eqb k 0x9D h.0.0.0.0.0.0.0.0.0.0.1, ne_eqb k 0x9F h.0.0.0.0.0.0.0.0.0.1, ne_eqb k 256 h.0.0.0.0.0.0.0.0.1, ne_eqb k 0x110 h.0.0.0.0.0.0.0.1, ne_eqb k 0x112 h.0.0.0.0.0.0.1, ne_eqb k 0x113 h.0.0.0.0.0.1, ne_eqb k 0x114 h.0.0.0.0.1, ne_eqb k 0x115 h.0.0.0.1, ne_eqb k 0x116 h.0.0.1, ne_eqb k 0x117 h.0.1, ne_eqb k 0x118 h.1)
-
 low_kind : (c : ℕ) → c < 0x120 → kind_of c ≡ c
 low_kind c h = rw (lt-ltb c 0x120 h)
 

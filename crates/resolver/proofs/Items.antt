@@ -1,12 +1,13 @@
 -- What an entry adds to the items before it: actions, bytes, tests and marks.
 use Prim.Native.Nat.{ℕ, suc, ◌+◌, ◌-◌, ◌≤◌, ◌<◌}
-use mathlib.Core.Path.{◌≡◌, refl, sym, ap, ap₂, ◌∙◌}
+use mathlib.Core.Path.{◌≡◌, refl, sym, ap, ap₂, ◌∙◌, subst}
 use mathlib.Core.List.{List, [], ◌∷◌, ◌++◌}
-use mathlib.Core.Bool.{Bool, true, false, cond, ◌&&◌, true≢false}
+use mathlib.Core.Bool.{Bool, true, false, cond, ◌&&◌}
 use native.Mathlib.Omega.{arith}
 use lib.Dec.{ltb, leb, eqb}
 use lib.ListN.{length, length-append}
 use borrow.Author.Tests.{lt-ltb, le-ltb, ltb-true, ltb-false, ne_eqb, le-leb, lt-leb, leb-true, leb-false}
+use Rattle.std.specs.Prelude.{Option, Some, None}
 use Rattle.pcode.specs.declared.Op.{Op}
 use Rattle.pcode.specs.Pcode.{Header, DefineFunction, DefineFunction2, Value, Plain, Action, Item, plain, push, branch, define, action, mark, row_of, Jump, If}
 use Rattle.hir.specs.Hir.{Str}
@@ -21,7 +22,7 @@ use Rattle.list_slice.specs.Entry.{Pushed, Piece, Null, Undefined, Boolean, Stri
 use Rattle.list_slice.specs.Items.{References, value_of, extended, added}
 use Rattle.resolver.specs.declared.walk.Walk.{Walk}
 use Rattle.resolver.specs.Sizes.{piece_data, piece_clear, size_of, measures, short_of, all_short, all_clear}
-use Rattle.resolver.specs.Steps.{Fine, frame, too_long, begun, joined, stepped, piece_body, adds, spots}
+use Rattle.resolver.specs.Steps.{Fine, frame, begun, joined, unless_long, stepped, piece_body, adds, spots}
 use Rattle.resolver.proofs.OpCodes.{op_code, op_says}
 
 -- a later value stands after a Push that has one
@@ -86,9 +87,15 @@ pub record Counts (B : ℕ → ℕ) (is : List Item) (w : Walk) : Type 0 where
   pub last : (ss : List ℕ) (m : ℕ) → measures B is ≡ ss ++ (m ∷ []) → w.last ≡ sum ss
   pub short : all_short B is ≡ true
 
-pub record Stepped (B : ℕ → ℕ) (is : List Item) (w : Walk) : Type 0 where
-  pub good : w.short ≡ true → Counts B is w
-  pub bad : w.short ≡ false → all_short B is ≡ false
+pub record Stepped (B : ℕ → ℕ) (is : List Item) (r : Option Walk) : Type 0 where
+  pub good : (w : Walk) → r ≡ Some w → Counts B is w
+  pub bad : r ≡ None → all_short B is ≡ false
+
+counted : {B : ℕ → ℕ} {is : List Item} {w : Walk} → Counts B is w → Stepped B is (Some w)
+counted {B} {is} {w} h = record { good = λ v e. let q : w ≡ v = cc in subst (Counts B is) q h; bad = λ e. absurd cc }
+
+uncounted : {B : ℕ → ℕ} {is : List Item} → all_short B is ≡ false → Stepped B is None
+uncounted h = record { good = λ v e. absurd cc; bad = λ e. h }
 
 sum_append : (xs : List ℕ) (m : ℕ) → sum (xs ++ (m ∷ [])) ≡ sum xs + m
 sum_append [] m = omega arith
@@ -141,15 +148,14 @@ module _ (B : ℕ → ℕ) {w : Walk} (u : Value) (us : List Value) (rest : List
   unfolding all_short
   new_long n = rw (lt-leb (length (join value_bytes new)) 65535 n)
 
-  later_pushed : w.last ≤ w.bytes → d ≡ length (value_bytes v) → Stepped B (action (push new) ∷ rest) (cond (leb d 65535) (joined w d) (too_long w))
-  later_pushed l e = go (leb d 65535) refl
+  later_pushed : w.last ≤ w.bytes → d ≡ length (value_bytes v) →
+      Stepped B (action (push new) ∷ rest) (cond (leb d 65535) (unless_long (leb (w.bytes + d - w.last) 65538) (joined w d)) None)
+  later_pushed l e = go (leb d 65535) refl (leb (w.bytes + d - w.last) 65538) refl
     where
-      go : (t : Bool) → leb d 65535 ≡ t → Stepped B (action (push new) ∷ rest) (cond t (joined w d) (too_long w))
-      go false z = record { good = λ y. absurd (true≢false (sym y)); bad = λ y. new_long (omega (arith, grown e, leb-false d 65535 z)) }
-      go true z = record {
-        good = λ y. new_counts e (omega (arith, grown e, old_bytes, old_last, leb-true (w.bytes + d - w.last) 65538 y));
-        bad = λ y. new_long (omega (arith, grown e, old_bytes, old_last, leb-false (w.bytes + d - w.last) 65538 y));
-      }
+      go : (t : Bool) → leb d 65535 ≡ t → (u : Bool) → leb (w.bytes + d - w.last) 65538 ≡ u → Stepped B (action (push new) ∷ rest) (cond t (unless_long u (joined w d)) None)
+      go false z u y = uncounted (new_long (omega (arith, grown e, leb-false d 65535 z)))
+      go true z true y = counted (new_counts e (omega (arith, grown e, old_bytes, old_last, leb-true (w.bytes + d - w.last) 65538 y)))
+      go true z false y = uncounted (new_long (omega (arith, grown e, old_bytes, old_last, leb-false (w.bytes + d - w.last) 65538 y)))
 
 module _ (B : ℕ → ℕ) {is : List Item} {w : Walk} (k : Counts B is w) where
   -- an entry that begins a record
@@ -159,31 +165,25 @@ module _ (B : ℕ → ℕ) {is : List Item} {w : Walk} (k : Counts B is w) where
   record_law a c d b low other size short =
       rw (ne_eqb c 257 other, lt-ltb c 0x120 low) (go (leb d 65535) (leb b 65535) short)
     where
-      go : (t u : Bool) → short_of B a ≡ (t && u) → Stepped B (action a ∷ is) (cond t (cond u (begun w c d b) (too_long w)) (too_long w))
-      go true true e = record {
-        good = λ z. record {
-          actions = simp length-append (omega (arith, k.actions));
-          bytes = rw (sum_append (measures B is) (size_of B a)) (omega (arith, k.bytes, size));
-          last = λ ss m q. k.bytes ∙ ap sum (last_same (measures B is) ss (size_of B a) m q).0;
-          short = rw e k.short;
-        };
-        bad = λ z. absurd (true≢false z);
-      }
-      go true false e = record { good = λ z. absurd (true≢false (sym z)); bad = λ z. rw e }
-      go false u e = record { good = λ z. absurd (true≢false (sym z)); bad = λ z. rw e }
+      go : (t u : Bool) → short_of B a ≡ (t && u) → Stepped B (action a ∷ is) (cond t (unless_long u (begun w c d b)) None)
+      go true true e = counted (record {
+        actions = simp length-append (omega (arith, k.actions));
+        bytes = rw (sum_append (measures B is) (size_of B a)) (omega (arith, k.bytes, size));
+        last = λ ss m q. k.bytes ∙ ap sum (last_same (measures B is) ss (size_of B a) m q).0;
+        short = rw e k.short;
+      })
+      go true false e = uncounted (rw e)
+      go false u e = uncounted (rw e)
 
-  mark_law : (l d b : ℕ) → w.short ≡ true → Stepped B (mark l ∷ is) (stepped w 257 d b)
+  mark_law : (l d b : ℕ) → Stepped B (mark l ∷ is) (stepped w 257 d b)
   unfolding measures all_short
-  mark_law l d b s = record {
-    good = λ z. record { actions = k.actions; bytes = k.bytes; last = k.last; short = k.short };
-    bad = λ z. absurd (true≢false (sym s ∙ z));
-  }
+  mark_law l d b = counted (record { actions = k.actions; bytes = k.bytes; last = k.last; short = k.short })
 
   -- a value that joins the Push before it
   later_law : (v : Value) (c d b : ℕ) → All Fine (extended v is) → w.last ≤ w.bytes → 0x120 ≤ c → d ≡ length (value_bytes v) → Stepped B (extended v is) (stepped w c d b)
   later_law v c d b h l high e = rw (ne_eqb c 257 (λ z. omega arith), le-ltb c 0x120 high) (go is (later_pushes v is h) k)
     where
-      go : (is : List Item) → Pushes is → Counts B is w → Stepped B (extended v is) (cond (leb d 65535) (joined w d) (too_long w))
+      go : (is : List Item) → Pushes is → Counts B is w → Stepped B (extended v is) (cond (leb d 65535) (unless_long (leb (w.bytes + d - w.last) 65538) (joined w d)) None)
       go _ (pushes u us rest) q = later_pushed B u us rest v q d l e
 
 pub frame_small : (c : ℕ) {r : ℕ} → r ≡ frame c → r ≤ 3
@@ -193,7 +193,7 @@ frame_small c {r} e = go (ltb c 128) e
     go true e = omega arith
     go false e = omega arith
 
-module _ (r : References) (B : ℕ → ℕ) {is : List Item} {w : Walk} (k : Counts B is w) (s : w.short ≡ true) (l : w.last ≤ w.bytes) where
+module _ (r : References) (B : ℕ → ℕ) {is : List Item} {w : Walk} (k : Counts B is w) (l : w.last ≤ w.bytes) where
   op_law : (o : Op) → Stepped B (action (plain (Plain.op o)) ∷ is) (stepped w (row_of o).code 0 0)
   unfolding word
   op_law o =
@@ -234,7 +234,7 @@ module _ (r : References) (B : ℕ → ℕ) {is : List Item} {w : Walk} (k : Cou
   step_law (Piece.function n f) h =
       record_law B k _ 256 (length (data_of_header (r.header f) 0)) (B n) (omega arith) (λ e. omega arith) (let e = header_size (r.header f) (B n) in omega arith)
       (ap (λ (m : ℕ). leb m 65535 && leb (B n) 65535) (header_same (r.header f) (B n) 0))
-  step_law (Piece.mark m) h = mark_law B k m 0 0 s
+  step_law (Piece.mark m) h = mark_law B k m 0 0
   step_law (value true Null) h = first_value 0x112 Null (omega arith) (omega arith)
   step_law (value true Undefined) h = first_value 0x113 Undefined (omega arith) (omega arith)
   step_law (value true (Boolean b)) h = first_value 0x115 (Boolean b) (omega arith) (omega arith)

@@ -31,10 +31,6 @@ dec_eq a b = go (eqb a b) refl
     go true e = yes (eqb-true a b e)
     go false e = no (eqb-false a b e)
 
--- an offset that would lie below 0
-pub offset_none : (after target : ℕ) → 65536 + target < after → 0 ≡ offset after target
-offset_none a t h = let z : 65536 + t - a ≡ 0 = omega arith in rw z
-
 -- a branch, or another entry
 
 module _ (r : References) where
@@ -123,7 +119,7 @@ resolve_start w starts places before from end h l = record {
   at = λ F ss f s k. (at_start s, rw (walked_none F w end), record { long = refl; at = λ e b l p q z. absurd (omega arith); others = λ e x. refl });
 }
 
-module _ {w starts places before : List ℕ} {from end i p : ℕ} {near : Bool} {offsets : List ℕ} (v : ResolveInv w starts places before from end i p near offsets) (z : i ≡ from → ⊥) (cap : end ≤ 4096)
+module _ {w starts places before : List ℕ} {from end i p : ℕ} {near : Bool} {offsets : List ℕ} (v : ResolveInv w starts places before from end i p near offsets) (z : from < i) (cap : end ≤ 4096)
   where
     abbrev j : ℕ
     j = i - 1

@@ -4,24 +4,27 @@ use mathlib.Core.Path.{◌≡◌, refl, sym, ap, ap₂, ◌∙◌}
 use mathlib.Core.Option
 use mathlib.Core.Option.{none, some}
 use mathlib.Core.List.{List, [], ◌∷◌, ◌++◌, map}
-use mathlib.Core.Bool.{Bool, true, false, cond, ◌&&◌}
+use mathlib.Core.Bool.{Bool, true, false, not, cond, ◌&&◌}
 use native.Mathlib.Omega.{arith}
-use native.Mathlib.Numerals.{add-one}
 use lib.Dec.{T, ltb, leb, eqb}
 use lib.ListN.{length, get_or, take, drop, length-take, length-drop, length-append}
-use lib.Seq.{drop-cons, drop-length, get_or-take, get_or-drop}
+use lib.Seq.{drop-cons, get_or-take, get_or-drop}
 use borrow.Author.Tests.{ltb-true, leb-true, eqb-true, eq-eqb, ne_eqb, lt-leb}
+use Rattle.std.specs.Prelude.{Some, None, unwrap_or}
+use Rattle.std.specs.List.{list_any}
 use Rattle.hir.specs.Hir.{Str}
 use Rattle.hir.specs.declared.Record.{Record}
 use Rattle.hir.specs.declared.Record.TheVariants as kind
 use Rattle.pcode.specs.Pcode.{Param, Header}
+use Rattle.script_records.specs.declared.layout.ScriptFile.{ScriptFile}
 use Rattle.script_records.specs.declared.part.Part.{Part}
 use Rattle.script.specs.Resolve.{resolved}
 use Rattle.lowering.specs.Meaning.{param}
 use Rattle.hir.specs.declared.ExprKind.TheVariants as expr
 use Rattle.script_records.specs.declared.layout.Row.{Row}
 use Rattle.script_records.specs.Layout.{Words, words_of, row_in}
-use Rattle.decode.specs.Decode.{record_of}
+use Rattle.decode.specs.declared.Function.{Function}
+use Rattle.decode.specs.Decode.{record_of, name_of, function_of}
 use Rattle.lowering.specs.Meaning.{list}
 use Rattle.lowering.specs.Statement.{header, meanings, params}
 use Rattle.lowering.proofs.Laws.{list_law}
@@ -41,47 +44,21 @@ use Rattle.lowering.specs.Builder.{limits01}
 use Rattle.action_format.specs.Strings.{no_zero, header_strings}
 use Rattle.list_slice.specs.Words.{pool_in}
 use Rattle.list_slice.specs.File.{no_string, text_in}
+use Rattle.slice_words.specs.References.{param_of}
 use Rattle.tree.proofs.Accepted.{accepted_short, accepted_rules, accepted_sound}
 use Rattle.script.specs.Rules.{record_holds}
 use Rattle.script.proofs.Written.{all_hold}
 use Rattle.script.proofs.WrittenRows.{first, second}
+use Rattle.slice_words.proofs.Strings.{string_short}
 use Rattle.resolver.specs.declared.text.Text.{Text}
 use Rattle.resolver.specs.declared.text.Data.{Data}
-use Rattle.resolver.specs.Texts.{Ready, Few, no_text, with_text, texts_of, name_ref, param_names, function_name, data_of, function_data}
+use Rattle.resolver.specs.Texts.{Ready, Few, no_text, with_text, texts_of, param_names, data_of, function_data}
 
--- no zero byte before i
-zero_step : (s : Str) (i : ℕ) → i < length s → (get_or s i 0 ≡ 0 → ⊥) → no_zero (drop i s) ≡ no_zero (drop (i + 1) s)
-zero_step s i h z = rw (add-one i, drop-cons s i 0 h) (go (get_or s i 0) z)
-  where
-    go : (b : ℕ) → (b ≡ 0 → ⊥) → no_zero (b ∷ drop (suc i) s) ≡ no_zero (drop (suc i) s)
-    go zero k = absurd (k refl)
-    go (suc b) k = refl
-
-pub record ZeroInv (s : Str) (i : ℕ) : Type 0 where
-  pub to : i ≤ length s
-  pub same : no_zero s ≡ no_zero (drop i s)
-
-pub zero_again : {s : Str} {i : ℕ} → ZeroInv s i → (get_or s i 0 ≡ 0 → ⊥) → i < length s → ZeroInv s (i + 1)
-zero_again {s} {i} v z h = record { to = omega arith; same = v.same ∙ zero_step s i h z }
-
-pub zero_found : {s : Str} {i : ℕ} → ZeroInv s i → get_or s i 0 ≡ 0 → i < length s → false ≡ no_zero s
-zero_found {s} {i} v z h = sym (v.same ∙ rw (drop-cons s i 0 h, z))
-
-pub zero_none : {s : Str} {i : ℕ} → ZeroInv s i → length s ≤ i → true ≡ no_zero s
-zero_none {s} {i} v h = let z : i ≡ length s = omega (arith, v.to) in sym (v.same ∙ rw (z, drop-length s))
-
--- a reference's string
-pub text_none : (F : List ℕ) (r : ℕ) → r ≡ no_string → [] ≡ text_in F r
-unfolding text_in
-text_none F r e = rw (eq-eqb r no_string e)
-
-pub text_string : (F : List ℕ) (l : Layout) (r : ℕ) → Ready F l → (r ≡ no_string → ⊥) → {s : List ℕ} → s ≡ string_at F l r → s ≡ text_in F r
-unfolding text_in
-text_string F l r h e q = rw (ne_eqb r no_string e, ← h.layout) q
-
-string_short : (F : List ℕ) (l : Layout) (i : ℕ) → length (string_at F l i) ≤ length F
-unfolding string_at
-string_short F l i = simp (length-take, length-drop) (omega arith)
+-- no byte is zero
+pub zero_free : (s : Str) → not (list_any (λ (b : ℕ). eqb b 0) s) ≡ no_zero s
+zero_free [] = refl
+zero_free (zero ∷ s) = refl
+zero_free (suc b ∷ s) = rw (ne_eqb (suc b) 0 (λ e. omega arith)) (zero_free s)
 
 pub text_short : (F : List ℕ) (r : ℕ) → length (text_in F r) ≤ length F
 unfolding text_in
@@ -90,14 +67,6 @@ text_short F r = go (eqb r no_string)
     go : (t : Bool) → length (cond t [] (string_at F (layout_of F) r)) ≤ length F
     go true = omega arith
     go false = string_short F (layout_of F) r
-
--- the sums fit
-pub text_few : {F : List ℕ} {l : Layout} {t : Text} → Ready F l → Few t → (r : ℕ) {s : List ℕ} → s ≡ text_in F r → t.bytes + length s + 1 ≤ (t.count + 1) * 1048577
-text_few {F} h f r e = omega (arith, f.small, accepted_short F h.accepted, text_short F r, ap length e)
-
-pub text_more : (F : List ℕ) (t : Text) (r : ℕ) {s : List ℕ} {b : Bool} → s ≡ text_in F r → b ≡ no_zero s →
-    ◌≡◌ {A = Text} (record { bytes = t.bytes + length s + 1; count = t.count + 1; clear = b && t.clear }) (with_text (text_in F r) t)
-text_more F t r e q = rw (q, e)
 
 -- the strings of a row of references
 
@@ -132,7 +101,7 @@ pool_next w n j i e k m h =
     ∙ ap (λ (x : ℕ). take x (get_or w (14336 + j) 0 ∷ drop (suc j) (pool_in limits01 w))) a
     ∙ ap (λ (x : ℕ). get_or w (14336 + j) 0 ∷ take (n - i) (drop x (pool_in limits01 w))) (sym e)
 
-pub pool_again : {F w : List ℕ} {n i : ℕ} {t : Text} → PoolInv F w n i t → {t' : Text} → t' ≡ with_text (text_in F (get_or w (14336 + (i - 1)) 0)) t → (i ≡ 0 → ⊥) →
+pub pool_again : {F w : List ℕ} {n i : ℕ} {t : Text} → PoolInv F w n i t → {t' : Text} → t' ≡ with_text (text_in F (get_or w (14336 + (i - 1)) 0)) t → 0 < i →
     16384 ≤ length w → n ≤ 2048 → PoolInv F w n (i - 1) t'
 pool_again {F} {w} {n} {i} v e z h k =
     record { le = omega (arith, v.le); is = e ∙ rw (v.is, pool_next w n (i - 1) i (omega arith) v.le k h) }
@@ -142,9 +111,6 @@ pool_done {F} {w} {n} {i} v z = let a : n - 0 ≡ n = omega arith in v.is ∙ rw
 
 pub pool_start : (F w : List ℕ) (n : ℕ) {t : Text} → t ≡ no_text → PoolInv F w n n t
 pool_start F w n e = let a : n - n ≡ 0 = omega arith in record { le = omega arith; is = e ∙ rw a }
-
-pub text_fits : {F : List ℕ} {l : Layout} → Ready F l → (r : ℕ) {s : List ℕ} → s ≡ text_in F r → length s ≤ 1048576
-text_fits {F} h r e = omega (arith, accepted_short F h.accepted, text_short F r, ap length e)
 
 -- the names of parameters, from the last to the first
 
@@ -164,9 +130,14 @@ text_is F r h = go (eqb r no_string) refl
     go false e = refl
 
 no_name : (F : List ℕ) → text_in F no_string ≡ []
-no_name F = sym (text_none F no_string refl)
+unfolding text_in
+no_name F = pick (eqb no_string no_string) (eq-eqb no_string no_string refl)
+  where
+    pick : (t : Bool) → t ≡ true → cond t [] (string_at F (layout_of F) no_string) ≡ []
+    pick true e = refl
+    pick false e = absurd cc
 
-name_is : (F : List ℕ) (r : Record) → length F ≤ 1048576 → text_in F (name_ref r) ≡ (param (rec_of F r)).name
+name_is : (F : List ℕ) (r : Record) → length F ≤ 1048576 → text_in F (param_of r).name ≡ (param (rec_of F r)).name
 unfolding resolved
 name_is F (kind.Parameter n g) h = text_is F n h
 name_is F (kind.ObjectField n) h = text_is F n h
@@ -194,7 +165,7 @@ onto_none (s ∷ ss) = ap (with_text s) (onto_none ss)
 abbrev names : List ℕ → Part → List Str
 names F p = param_names (params_of (trees F p))
 
-names_more : (F : List ℕ) (l : Layout) (p : Part) {r : Node} → IsNode F l p r → 0 < p.n → names F p ≡ names F r.before ++ ((param (rec_of F r.root)).name ∷ [])
+names_more : (F : List ℕ) (l : Layout) (p : Part) {r : Node Part} → IsNode F l p r → 0 < p.n → names F p ≡ names F r.before ++ ((param (rec_of F r.root)).name ∷ [])
 unfolding params_of
 names_more F l p i h = rw (trees_more F l p i h) (map_append (λ (x : Param). x.name) (params_of (trees F _)) (param (rec_of F _) ∷ []))
 
@@ -216,24 +187,21 @@ params_start {F} {l} {p} w e =
     })
 
 module _ {F : List ℕ} {l : Layout} {p left : Part} {t : Text} (v : ParamsInv F l p left t) where
-  pub params_few : Few t
-  params_few = record { small = v.small; few = omega (arith, v.few, v.most) }
-
-  pub params_less : {r : Node} → r ≡ node_of F l left → (left.n ≡ 0 → ⊥) → r.before.n < left.n
+  pub params_less : {r : Node Part} → r ≡ node_of F l left → 0 < left.n → r.before.n < left.n
   params_less e z = omega (arith, (is_node F l left v.within e).apart)
 
-  pub params_again : {r : Node} → r ≡ node_of F l left → (left.n ≡ 0 → ⊥) → {n : ℕ} → n ≡ name_ref r.root → {t' : Text} → t' ≡ with_text (text_in F n) t → Ready F l →
+  pub params_again : {r : Node Part} → r ≡ node_of F l left → 0 < left.n → {s : Str} → s ≡ text_in F (param_of r.root).name → {t' : Text} → t' ≡ with_text s t →
       ParamsInv F l p r.before t'
-  params_again {r} e z q u h =
+  params_again {r} e z q u =
       let i = is_node F l left v.within e in
-      let s : length F ≤ 1048576 = accepted_short F h.accepted in
+      let s : length F ≤ 1048576 = v.within.sound.short in
       rw (u, q) (record {
         within = i.rest_within;
         same = v.same ∙ ap (λ (ss : List Str). onto ss t) (names_more F l left i (omega arith)) ∙ onto_last (names F r.before) (param (rec_of F r.root)).name t
             ∙ ap (λ (x : Str). onto (names F r.before) (with_text x t)) (sym (name_is F r.root s));
         few = omega (arith, v.few, i.apart);
         most = v.most;
-        small = omega (arith, v.small, text_short F (name_ref r.root));
+        small = omega (arith, v.small, text_short F (param_of r.root).name);
       })
 
   pub params_done : left.n ≡ 0 → t ≡ texts_of (param_names (params_of (trees F p)))
@@ -263,10 +231,14 @@ function_record : (w : Words) → w.kind ≡ 49 → record_of w ≡ kind.Expr (e
 unfolding record_of
 function_record w e = rw e
 
+-- the reference of a function's name, whose word is the name's index plus 1, or 0
+abbrev function_name : ℕ → ℕ
+function_name a = unwrap_or (name_of a) no_string
+
 name_text : (F : List ℕ) (a : ℕ) → length F ≤ 1048576 → text_in F (function_name a) ≡ cond (eqb a 0) [] (string_at F (layout_of F) (a - 1))
 name_text F a h = go (eqb a 0)
   where
-    go : (t : Bool) → text_in F (cond t no_string (a - 1)) ≡ cond t [] (string_at F (layout_of F) (a - 1))
+    go : (t : Bool) → text_in F (unwrap_or (cond t None (Some (a - 1))) no_string) ≡ cond t [] (string_at F (layout_of F) (a - 1))
     go true = no_name F
     go false = text_is F (a - 1) h
 
@@ -323,16 +295,17 @@ function_kids {F} {l} h r f e q =
     rw (q, e, h.layout) (record { layout = refl; inside = omega arith; known = omega arith; whole = s.whole r p.0; sound = s })
 
 pub function_done : {F : List ℕ} {l : Layout} → Ready F l → (r : ℕ) → T (names_function F r) → {row : Row} → row ≡ row_in (rows_of F l) r → {n : ℕ} → n ≡ row.size - 1 →
-    {p : Part} → IsList F l (record { end = r; n = n }) 1 p → {t : Text} → t ≡ texts_of (param_names (params_of (trees F p))) →
-    {a : ℕ} → a ≡ function_name row.a → {u : Text} → u ≡ with_text (text_in F a) t → {b : ℕ} → b ≡ cond (leb (row.b % 256) 1) 4 (7 + t.count) →
+    {p : Part} → IsList F l (record { end = r; n = n }) 1 p → (s : ScriptFile) → s.bytes.now ≡ F → {t : Text} → t ≡ texts_of (param_names (params_of (trees s.bytes.now p))) →
+    {f : Function} → f ≡ function_of (words_of row) → {u : Text} → u ≡ with_text (text_in F (unwrap_or f.name no_string)) t → {b : ℕ} → b ≡ cond (leb f.register_count 1) 4 (7 + t.count) →
     data_of (b + u.bytes) u.clear ≡ function_data F r
-function_done {F} {l} h r f {row} e {n} q {p} ps t a u b =
+unfolding function_of
+function_done {F} {l} h r f {row} e {n} q {p} ps s same t a u b =
     let k : row ≡ row_at F r = e ∙ ap (λ (x : Layout). row_in (rows_of F x) r) h.layout in
     let z : params_of (list 1 (trees F (kids_at F r))) ≡ params_of (trees F p) =
     sym (params_are (list 1 (trees F (kids_at F r)))) ∙ ap params (sym (list_law 1 (trees F (kids_at F r))))
     ∙ ap (λ (m : ℕ). params (list 1 (meanings (trees F (record { end = r; n = m }))))) (sym (q ∙ ap (λ (x : Row). x.size - 1) k))
     ∙ ap params ps.means ∙ params_are (trees F p) in
-    rw (b, u, a, t, k, header_is F r f (accepted_short F h.accepted), z)
+    rw (b, u, a, t, same, k, header_is F r f (accepted_short F h.accepted), z)
     (header_size (text_in F (function_name (row_at F r).a)) ((row_at F r).b % 256) ((row_at F r).c % 512) (params_of (trees F p)) (leb ((row_at F r).b % 256) 1))
 
 pub pool_small : {F : List ℕ} {l : Layout} → Ready F l → (w : List ℕ) (n : ℕ) → n ≤ 2048 → {t : Text} → t ≡ texts_of (map (text_in F) (take n (pool_in limits01 w))) →
@@ -341,11 +314,3 @@ pool_small {F} h w n k {t} e =
     let s = texts_small F (take n (pool_in limits01 w)) (accepted_short F h.accepted) in
     let m : length (take n (pool_in limits01 w)) ≤ 2048 = simp length-take (omega arith) in
     rw e (omega (arith, s.0))
-
-pub function_fits : {F : List ℕ} {l : Layout} → Ready F l → {t : Text} → Few t → (a : ℕ) {u : Text} → u ≡ with_text (text_in F a) t → (n : ℕ) {b : ℕ} → b ≡ cond (leb n 1) 4 (7 + t.count) →
-    b + u.bytes ≤ 274877906944
-function_fits {F} h {t} f a {u} e n {b} q = go (leb n 1) q
-  where
-    go : (x : Bool) → b ≡ cond x 4 (7 + t.count) → b + u.bytes ≤ 274877906944
-    go true q = let s = accepted_short F h.accepted in omega (arith, ap (λ (x : Text). x.bytes) e, f.small, f.few, text_short F a)
-    go false q = let s = accepted_short F h.accepted in omega (arith, ap (λ (x : Text). x.bytes) e, f.small, f.few, text_short F a)

@@ -2,14 +2,14 @@
 use Prim.Native.Nat.{ℕ, zero, suc, ◌+◌, ◌-◌, ◌*◌, ◌≤◌, ◌<◌}
 use mathlib.Core.Path.{◌≡◌, refl, sym, ap, ◌∙◌, subst}
 use mathlib.Core.List.{List, [], ◌∷◌, ◌++◌}
-use mathlib.Core.Bool.{Bool, true, false, cond, ◌&&◌, true≢false}
+use mathlib.Core.Bool.{Bool, true, false, cond, ◌&&◌}
 use native.Mathlib.Omega.{arith}
-use native.Mathlib.Nat.{not-suc-le-zero}
 use native.Mathlib.Decide.{dec_lt}
 use lib.Dec.{ltb, leb, eqb}
-use lib.ListN.{length, get_or, set, length-append, length-set, get_or-eq_default}
+use lib.ListN.{length, get_or, set, length-append, length-set}
 use lib.Seq.{take-append-le, take-append_seam, take_all, get_or-set_same, get_or-set_other}
 use borrow.Author.Tests.{ne_eqb, eqb-true, eqb-false, ltb-false, leb-true}
+use Rattle.std.specs.Prelude.{Option, Some, None}
 use Rattle.pcode.specs.Pcode.{Item, row_of, Jump, If}
 use Rattle.action_format.specs.ByPlace.{actions}
 use Rattle.action_format.specs.Offsets.{sum, position}
@@ -22,7 +22,7 @@ use Rattle.resolver.specs.declared.text.Data.{Data}
 use Rattle.resolver.specs.Walk.{piece_at, references_in, walked}
 use Rattle.resolver.specs.Sizes.{piece_data, measures, all_short, all_clear}
 use Rattle.resolver.specs.Texts.{Known, entry_data}
-use Rattle.resolver.specs.Steps.{Fine, Standing, walk, begun, joined, too_long, stepped, Room, bodies, piece_body, stepped_at, Measured, Walked, adds, spots, Placed, placed, marked_at}
+use Rattle.resolver.specs.Steps.{Fine, Standing, begun, joined, unless_long, stepped, Room, bodies, piece_body, stepped_at, Measured, Walked, adds, spots, Placed, placed, marked_at}
 use Rattle.resolver.proofs.OpCodes.{op_code, op_says}
 use Rattle.resolver.proofs.Entries.{entry_piece}
 use Rattle.resolver.proofs.Items.{fine_before, Counts, Stepped, step_law, Grows, same, more, last, grows, short_before, adds_law, Marks, marks, other, marks_law, clear_law, frame_small}
@@ -57,11 +57,8 @@ body_piece sizes (value false (Float n)) = refl
 body_piece sizes (value false (Integer n)) = refl
 body_piece sizes (value false (Constant n)) = refl
 
-pub no_body : (sizes : List ℕ) (n : ℕ) → length sizes ≤ n → get_or sizes n 0 ≡ 0
-no_body sizes n h = get_or-eq_default sizes 0 h
-
 pub step_done : {F w : List ℕ} {e : ℕ} → Known F w e → (sizes : List ℕ) {d : Data} → d ≡ entry_data F w (entry_at w e) →
-    {b : ℕ} → b ≡ cond (eqb (entry_at w e).code 256) (get_or sizes (entry_at w e).first 0) 0 → (k : Walk) {r : Walk} → r ≡ stepped k (get_or w (e * 3) 0) d.bytes b →
+    {b : ℕ} → b ≡ cond (eqb (entry_at w e).code 256) (get_or sizes (entry_at w e).first 0) 0 → (k : Walk) {r : Option Walk} → r ≡ stepped k (get_or w (e * 3) 0) d.bytes b →
     r ≡ stepped_at F w sizes k e
 unfolding entry_at
 step_done {F} {w} {e} h sizes q {b} s k t =
@@ -134,33 +131,35 @@ whole_position xs = ap sum (take_all (length xs) xs (omega arith))
 
 -- the numbers stay small
 
-pub step_room : (k : Walk) (c d b : ℕ) → Room k → (stepped k c d b).short ≡ true →
-    ((stepped k c d b).bytes ≤ k.bytes + 131073) × ((stepped k c d b).last ≤ (stepped k c d b).bytes)
-step_room k c d b h = one (eqb c 257)
+step_room : (k : Walk) (c d b : ℕ) → Room k → (r : Walk) → stepped k c d b ≡ Some r → (r.bytes ≤ k.bytes + 131073) × (r.last ≤ r.bytes)
+step_room k c d b h r = one (eqb c 257)
   where
-    four : (u : Bool) → leb b 65535 ≡ u → d ≤ 65535 → (cond u (begun k c d b) (too_long k)).short ≡ true →
-        ((cond u (begun k c d b) (too_long k)).bytes ≤ k.bytes + 131073) × ((cond u (begun k c d b) (too_long k)).last ≤ (cond u (begun k c d b) (too_long k)).bytes)
-    four true e n s = let f = frame_small c refl in (omega (arith, leb-true b 65535 e), omega arith)
-    four false e n s = absurd (true≢false (sym s))
+    Small : Walk → Type 0
+    Small v = (v.bytes ≤ k.bytes + 131073) × (v.last ≤ v.bytes)
 
-    three : (u : Bool) → d ≤ 65535 → (cond u (cond (leb b 65535) (begun k c d b) (too_long k)) (joined k d)).short ≡ true →
-        ((cond u (cond (leb b 65535) (begun k c d b) (too_long k)) (joined k d)).bytes ≤ k.bytes + 131073)
-        × ((cond u (cond (leb b 65535) (begun k c d b) (too_long k)) (joined k d)).last ≤ (cond u (cond (leb b 65535) (begun k c d b) (too_long k)) (joined k d)).bytes)
+    small : (v : Walk) → Small v → Some v ≡ Some r → Small r
+    small v p e = let q : v ≡ r = cc in subst Small q p
+
+    four : (u : Bool) → leb b 65535 ≡ u → d ≤ 65535 → unless_long u (begun k c d b) ≡ Some r → Small r
+    four true e n s = let f = frame_small c refl in small (begun k c d b) (omega (arith, leb-true b 65535 e), omega arith) s
+    four false e n s = absurd cc
+
+    five : (u : Bool) → d ≤ 65535 → unless_long u (joined k d) ≡ Some r → Small r
+    five true n s = small (joined k d) (omega arith, omega (arith, h.last)) s
+    five false n s = absurd cc
+
+    three : (u : Bool) → d ≤ 65535 → cond u (unless_long (leb b 65535) (begun k c d b)) (unless_long (leb (k.bytes + d - k.last) 65538) (joined k d)) ≡ Some r → Small r
     three true n s = four (leb b 65535) refl n s
-    three false n s = (omega arith, omega (arith, h.last))
+    three false n s = five (leb (k.bytes + d - k.last) 65538) n s
 
-    two : (u : Bool) → leb d 65535 ≡ u → (cond u (cond (ltb c 0x120) (cond (leb b 65535) (begun k c d b) (too_long k)) (joined k d)) (too_long k)).short ≡ true →
-        ((cond u (cond (ltb c 0x120) (cond (leb b 65535) (begun k c d b) (too_long k)) (joined k d)) (too_long k)).bytes ≤ k.bytes + 131073)
-        × ((cond u (cond (ltb c 0x120) (cond (leb b 65535) (begun k c d b) (too_long k)) (joined k d)) (too_long k)).last
-        ≤ (cond u (cond (ltb c 0x120) (cond (leb b 65535) (begun k c d b) (too_long k)) (joined k d)) (too_long k)).bytes)
+    two : (u : Bool) → leb d 65535 ≡ u →
+        cond u (cond (ltb c 0x120) (unless_long (leb b 65535) (begun k c d b)) (unless_long (leb (k.bytes + d - k.last) 65538) (joined k d))) None ≡ Some r → Small r
     two true e s = three (ltb c 0x120) (leb-true d 65535 e) s
-    two false e s = absurd (true≢false (sym s))
+    two false e s = absurd cc
 
-    one : (t : Bool) → (cond t k (cond (leb d 65535) (cond (ltb c 0x120) (cond (leb b 65535) (begun k c d b) (too_long k)) (joined k d)) (too_long k))).short ≡ true →
-        ((cond t k (cond (leb d 65535) (cond (ltb c 0x120) (cond (leb b 65535) (begun k c d b) (too_long k)) (joined k d)) (too_long k))).bytes ≤ k.bytes + 131073)
-        × ((cond t k (cond (leb d 65535) (cond (ltb c 0x120) (cond (leb b 65535) (begun k c d b) (too_long k)) (joined k d)) (too_long k))).last
-        ≤ (cond t k (cond (leb d 65535) (cond (ltb c 0x120) (cond (leb b 65535) (begun k c d b) (too_long k)) (joined k d)) (too_long k))).bytes)
-    one true s = (omega arith, h.last)
+    one : (t : Bool) →
+        cond t (Some k) (cond (leb d 65535) (cond (ltb c 0x120) (unless_long (leb b 65535) (begun k c d b)) (unless_long (leb (k.bytes + d - k.last) 65538) (joined k d))) None) ≡ Some r → Small r
+    one true s = small k (omega arith, h.last) s
     one false s = two (leb d 65535) refl s
 
 -- the walk's loop
@@ -169,28 +168,27 @@ pub record WalkInv (F w sizes : List ℕ) (from end i : ℕ) (k : Walk) (starts 
   pub low : from ≤ i
   pub high : i ≤ end
   pub counts : Counts (bodies sizes) (walked F w i (end - i)) k
-  pub short : k.short ≡ true
   pub few : k.actions ≤ end - i
   pub most : k.bytes ≤ (end - i) * 131073
   pub last : k.last ≤ k.bytes
   pub long : length starts ≡ 4097
   pub begins : (p : ℕ) → p < k.actions → get_or starts p 0 ≡ position (measures (bodies sizes) (walked F w i (end - i))) p
 
-pub walk_start : (F w sizes : List ℕ) {from end : ℕ} (starts : List ℕ) → Standing F w from end → length starts ≡ 4097 → {k : Walk} → k ≡ walk 0 0 0 true → WalkInv F w sizes from end end k starts
+pub walk_start : (F w sizes : List ℕ) {from end : ℕ} (starts : List ℕ) → Standing F w from end → length starts ≡ 4097 → {k : Walk} → (k.actions ≡ 0) × ((k.bytes ≡ 0) × (k.last ≡ 0)) →
+    WalkInv F w sizes from end end k starts
 unfolding measures all_short
-walk_start F w sizes {from} {end} starts s l e =
+walk_start F w sizes {from} {end} starts s l {k} e =
     let z = walked_none F w end in
-    rw e (record {
+    record {
       low = s.order;
       high = omega arith;
-      counts = rw z (record { actions = refl; bytes = refl; last = λ ss m q. absurd (no_last ss m q); short = refl });
-      short = refl;
-      few = omega arith;
-      most = omega arith;
-      last = omega arith;
+      counts = rw z (record { actions = e.0; bytes = e.1.0; last = λ ss m q. absurd (no_last ss m q); short = refl });
+      few = omega (arith, e.0);
+      most = omega (arith, e.1.0);
+      last = omega (arith, e.1.0, e.1.1);
       long = l;
-      begins = λ p h. absurd (not-suc-le-zero h);
-    })
+      begins = λ p h. absurd (omega (arith, e.0));
+    }
   where
     no_last : (ss : List ℕ) (m : ℕ) → [] ≡ ss ++ (m ∷ []) → ⊥
     no_last ss m q = let z : 0 ≡ length ss + 1 = ap length q ∙ length-append ss (m ∷ []) in omega arith
@@ -199,8 +197,8 @@ module _ {F w sizes : List ℕ} {from end i : ℕ} {k : Walk} {starts : List ℕ
   pub walk_room : Room k
   walk_room = record { actions = omega (arith, v.few, v.high, s.cap); bytes = omega (arith, v.most, v.high, s.cap); last = v.last }
 
-  module _ (go_on : i ≡ from → ⊥) where
-    pub walk_known : Known F w (i - 1)
+  module _ (go_on : from < i) where
+    walk_known : Known F w (i - 1)
     walk_known = s.known (i - 1) (omega (arith, v.low)) (omega (arith, v.low, v.high))
 
     abbrev is : List Item
@@ -218,54 +216,54 @@ module _ {F w sizes : List ℕ} {from end i : ℕ} {k : Walk} {starts : List ℕ
     fine_is : All Fine (added (references_in F w) piece is)
     fine_is = fine_next s i (omega (arith, v.low)) v.high
 
-    module _ {r : Walk} (e : r ≡ stepped_at F w sizes k (i - 1)) where
+    module _ {r : Option Walk} (e : r ≡ stepped_at F w sizes k (i - 1)) where
       walk_step : Stepped (bodies sizes) is' r
       walk_step =
           let q : r ≡ stepped k (entry_of piece).code (piece_data (references_in F w) piece) (piece_body (bodies sizes) piece) =
           e ∙ sym (ap (λ (x : Entry). stepped k x.code (piece_data (references_in F w) piece) (piece_body (bodies sizes) piece)) walk_known.written) in
-          rw (more_is, q) (step_law (references_in F w) (bodies sizes) v.counts v.short v.last piece fine_is)
+          rw (more_is, q) (step_law (references_in F w) (bodies sizes) v.counts v.last piece fine_is)
 
       grown : Grows (measures (bodies sizes) is) (measures (bodies sizes) is')
       grown = rw more_is (grows (references_in F w) (bodies sizes) piece is fine_is)
 
-      pub walk_bad : r.short ≡ false → all_short (bodies sizes) (walked F w from (end - from)) ≡ false
-      walk_bad z = long_down s (i - 1 - from) (i - 1) (omega (arith, v.high)) (omega (arith, v.low)) (bodies sizes) (walk_step.bad z)
+      pub walk_stop : (starts' : List ℕ) → r ≡ None → Walked (bodies sizes) (walked F w from (end - from)) None starts'
+      walk_stop starts' z = record {
+        good = λ x y. absurd cc;
+        bad = λ y. long_down s (i - 1 - from) (i - 1) (omega (arith, v.high)) (omega (arith, v.low)) (bodies sizes) (walk_step.bad z);
+      }
 
-      pub walk_stop : (starts' : List ℕ) → r.short ≡ false → Walked (bodies sizes) (walked F w from (end - from)) r starts'
-      walk_stop starts' z = record { good = λ y. absurd (true≢false (sym y ∙ z)); bad = walk_bad }
-
-      pub walk_again : {starts' : List ℕ} → starts' ≡ set starts k.actions k.bytes → r.short ≡ true → WalkInv F w sizes from end (i - 1) r starts'
-      walk_again q z =
-          let c = walk_step.good z in
+      pub walk_again : {starts' : List ℕ} → starts' ≡ set starts k.actions k.bytes → {x : Walk} → r ≡ Some x → WalkInv F w sizes from end (i - 1) x starts'
+      walk_again q {x} z =
+          let c = walk_step.good x z in
           let g = grown_few grown in
           let a = v.counts.actions in
-          let room = step_room k (entry_at w (i - 1)).code (piece_data (references_in F w) piece) (piece_body (bodies sizes) piece) walk_room (rw e at z) in
-          let m : r.bytes ≤ k.bytes + 131073 = rw e room.0 in
-          let n : r.last ≤ r.bytes = rw e room.1 in
+          let room = step_room k (entry_at w (i - 1)).code (piece_data (references_in F w) piece) (piece_body (bodies sizes) piece) walk_room x (sym e ∙ z) in
           rw q (record {
             low = omega (arith, v.low);
             high = omega (arith, v.high);
             counts = c;
-            short = z;
             few = omega (arith, c.actions, g.1, a, v.few, v.high, v.low);
-            most = omega (arith, v.most, v.high, v.low);
-            last = n;
+            most = omega (arith, v.most, v.high, v.low, room.0);
+            last = room.1;
             long = length-set starts k.actions k.bytes ∙ v.long;
             begins = λ p h. begins_at p h c (dec_lt p k.actions);
           })
         where
-          begins_at : (p : ℕ) → p < r.actions → Counts (bodies sizes) is' r → Dec (p < k.actions) →
+          begins_at : (p : ℕ) → p < x.actions → Counts (bodies sizes) is' x → Dec (p < k.actions) →
               get_or (set starts k.actions k.bytes) p 0 ≡ position (measures (bodies sizes) is') p
           begins_at p h c (yes y) =
               get_or-set_other starts k.actions p k.bytes 0 (λ x. omega arith) ∙ v.begins p y
               ∙ sym (grown_before grown p (omega (arith, v.counts.actions)))
-          begins_at p h c (no y) =
-              let x : p ≡ k.actions = omega (arith, c.actions, (grown_few grown).1, v.counts.actions) in
-              rw x (get_or-set_same starts k.actions k.bytes 0 (omega (arith, v.long, v.few, v.high, s.cap)) ∙ v.counts.bytes
+          begins_at p h c (no n) =
+              let y : p ≡ k.actions = omega (arith, c.actions, (grown_few grown).1, v.counts.actions) in
+              rw y (get_or-set_same starts k.actions k.bytes 0 (omega (arith, v.long, v.few, v.high, s.cap)) ∙ v.counts.bytes
               ∙ sym (ap (position (measures (bodies sizes) is')) v.counts.actions ∙ grown_there grown (omega (arith, c.actions, v.counts.actions))))
 
-  pub walk_done : i ≡ from → {starts' : List ℕ} → starts' ≡ set starts k.actions k.bytes → Walked (bodies sizes) (walked F w from (end - from)) k starts'
-  walk_done z q = record { good = λ y. rw (q, ← z) measured; bad = λ y. absurd (true≢false (sym v.short ∙ y)) }
+  pub walk_done : i ≡ from → {starts' : List ℕ} → starts' ≡ set starts k.actions k.bytes → Walked (bodies sizes) (walked F w from (end - from)) (Some k) starts'
+  walk_done z {starts'} q = record {
+    good = λ x y. let e : k ≡ x = cc in subst (λ (x : Walk). Measured (bodies sizes) (walked F w from (end - from)) x starts') e (rw (q, ← z) measured);
+    bad = λ y. absurd cc;
+  }
     where
       at : (p : ℕ) → p ≤ length (measures (bodies sizes) (walked F w i (end - i))) → Dec (p < k.actions) →
           get_or (set starts k.actions k.bytes) p 0 ≡ position (measures (bodies sizes) (walked F w i (end - i))) p
@@ -295,19 +293,16 @@ unfolding all_clear
 clear_start {F} {w} {from} {end} s = record { low = s.order; high = omega arith; is = rw (walked_none F w end) }
 
 module _ {F w : List ℕ} {from end i : ℕ} {clear : Bool} (s : Standing F w from end) (v : ClearInv F w from end i clear) where
-  pub clear_known : (i ≡ from → ⊥) → Known F w (i - 1)
+  clear_known : from < i → Known F w (i - 1)
   clear_known z = s.known (i - 1) (omega (arith, v.low)) (omega (arith, v.low, v.high))
 
-  pub clear_again : (z : i ≡ from → ⊥) {d : Data} → d ≡ entry_data F w (entry_at w (i - 1)) → ClearInv F w from end (i - 1) (d.clear && clear)
+  pub clear_again : (z : from < i) {d : Data} → d ≡ entry_data F w (entry_at w (i - 1)) → ClearInv F w from end (i - 1) (d.clear && clear)
   clear_again z e = record {
     low = omega (arith, v.low);
     high = omega (arith, v.high);
     is = rw ((entry_piece F w (clear_known z) e).1, v.is) (sym (ap all_clear (walked_more F w i end (omega (arith, v.low)) v.high)
         ∙ clear_law (references_in F w) (piece_at w (i - 1)) (walked F w i (end - i)) (fine_next s i (omega (arith, v.low)) v.high)));
   }
-
-  pub clear_done : i ≡ from → clear ≡ all_clear (walked F w from (end - from))
-  clear_done z = v.is ∙ ap (λ (j : ℕ). all_clear (walked F w j (end - j))) z
 
 -- the marks
 
@@ -333,7 +328,7 @@ code_of : {F w : List ℕ} {e : ℕ} → Known F w e → get_or w (e * 3) 0 ≡ 
 unfolding entry_at
 code_of h = sym (ap (λ (x : Entry). x.code) h.written)
 
-pub at_again : {F w : List ℕ} {from end i p : ℕ} → Standing F w from end → At F w from end i p → (i ≡ from → ⊥) → {n : ℕ} → n ≡ adds (get_or w ((i - 1) * 3) 0) → At F w from end (i - 1) (p + n)
+pub at_again : {F w : List ℕ} {from end i p : ℕ} → Standing F w from end → At F w from end i p → from < i → {n : ℕ} → n ≡ adds (get_or w ((i - 1) * 3) 0) → At F w from end (i - 1) (p + n)
 at_again {F} {w} {from} {end} {i} {p} s v z {n} e =
     let k = s.known (i - 1) (omega (arith, v.low)) (omega (arith, v.low, v.high)) in
     let a = adds_law (references_in F w) (piece_at w (i - 1)) (walked F w i (end - i)) (fine_next s i (omega (arith, v.low)) v.high) in
@@ -388,7 +383,7 @@ placed_long true true places l p = length-set places l p
 placed_long true false places l p = refl
 placed_long false u places l p = refl
 
-pub mark_again : {w : List ℕ} {from end i p : ℕ} {places : List ℕ} → MarkInv w from end i p places → (i ≡ from → ⊥) →
+pub mark_again : {w : List ℕ} {from end i p : ℕ} {places : List ℕ} → MarkInv w from end i p places → from < i →
     {places' : List ℕ} → places' ≡ marked_at w places (i - 1) p → {n : ℕ} → n ≡ adds (get_or w ((i - 1) * 3) 0) → MarkInv w from end (i - 1) (p + n) places'
 mark_again {w} {from} {end} {i} {p} {places} v z q {n} e =
     rw q (record {
@@ -412,7 +407,3 @@ mark_again {w} {from} {end} {i} {p} {places} v z q {n} e =
 pub mark_done : {w : List ℕ} {from end i p : ℕ} {places : List ℕ} → MarkInv w from end i p places → i ≡ from → (F : List ℕ) → Standing F w from end →
     Placed (walked F w from (end - from)) places
 mark_done {w} {from} {end} {i} {p} {places} v z F s = subst (λ (j : ℕ). Placed (walked F w j (end - j)) places) z (v.at F s).1
-
-pub walk_long : {F w sizes : List ℕ} {from end i : ℕ} {k : Walk} {starts : List ℕ} → WalkInv F w sizes from end i k starts → {starts' : List ℕ} → starts' ≡ set starts k.actions k.bytes →
-    length starts' ≡ 4097
-walk_long {k = k} {starts} v e = ap length e ∙ length-set starts k.actions k.bytes ∙ v.long

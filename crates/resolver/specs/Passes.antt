@@ -1,11 +1,12 @@
 -- The passes over all lists, in the order in which they finish.
-use Rattle.std.specs.Prelude.{ℕ, zero, suc, ◌+◌, ◌-◌, ◌≤◌, ◌<◌, ◌≡◌, List, [], ◌∷◌, Bool, true, false, cond, ◌&&◌, eqb, length, get_or}
+use Rattle.std.specs.Prelude.{ℕ, zero, suc, ◌+◌, ◌-◌, ◌≤◌, ◌<◌, ◌≡◌, List, [], ◌∷◌, Bool, true, false, cond, ◌&&◌, eqb, length, get_or, Option, Some, None, Result, Ok, Err}
+use Rattle.refusal.specs.declared.Refusal.{Refusal}
+use Rattle.refusal.specs.declared.Refusal.TheVariants.{ZeroByte, TooLong, TooFar}
 use Rattle.pcode.specs.Pcode.{Branching, Item}
 use Rattle.action_format.specs.ByPlace.{actions}
 use Rattle.action_format.specs.Offsets.{sum, position, offset}
 use Rattle.list_slice.specs.Entry.{Piece}
-use Rattle.resolver.specs.declared.passes.Step.{Step}
-use Rattle.resolver.specs.declared.Answer.{Answer}
+use Rattle.resolver.specs.declared.passes.Body.{Body}
 use Rattle.resolver.specs.Walk.{count_of, end_of, start_of, piece_at, walked}
 use Rattle.resolver.specs.Sizes.{measures, all_short, all_clear}
 use Rattle.resolver.specs.Steps.{Standing, spots, all_near_in, Offsets}
@@ -47,16 +48,16 @@ module _ {F w : List ℕ} (s : Sized F w) where
   nearLists zero = true
   nearLists (suc j) = near_list j && nearLists j
 
-  -- one list: refused with 10, or its tables
+  -- one list: none if a record or its body is too long, or its tables
   pub record ListDone (j : ℕ) (before offsets : List ℕ) (bytes : ℕ) (near : Bool) : Type 0 where
     pub bytes_are : bytes ≡ s.body (number_at (count_of w) j)
     pub short : all_short s.body (walked_at F w j) ≡ true
     pub near_is : near ≡ near_list j
     pub offsets_are : Offsets F w (start_of w j) (end_of w j) (sizes_at j) (s.place j) before offsets
 
-  pub record Tried (j : ℕ) (before offsets : List ℕ) (r : Step) : Type 0 where
-    pub good : r.short ≡ true → ListDone j before offsets r.bytes r.near
-    pub bad : r.short ≡ false → all_short s.body (walked_at F w j) ≡ false
+  pub record Tried (j : ℕ) (before offsets : List ℕ) (r : Option Body) : Type 0 where
+    pub good : (b : Body) → r ≡ Some b → ListDone j before offsets b.bytes b.near
+    pub bad : r ≡ None → all_short s.body (walked_at F w j) ≡ false
 
   -- sizes of the lists before j
   abbrev pub SizesTo : ℕ → List ℕ → Type 0
@@ -70,17 +71,18 @@ module _ {F w : List ℕ} (s : Sized F w) where
         get_or offsets e 0 ≡ offset (position (sizes_at i) (suc (length (actions (walked F w (suc e) (end_of w i - suc e)))))) (position (sizes_at i) (s.place i l))
     pub near_are : near ≡ nearLists j
 
-  pub data Passed (sizes offsets : List ℕ) : ℕ → Type 0 where
-    too_long : (j : ℕ) → j < count_of w → all_short s.body (walked_at F w j) ≡ false → Passed sizes offsets 10
-    too_far : Done (count_of w) false sizes offsets → Passed sizes offsets 11
-    resolved : Done (count_of w) true sizes offsets → Passed sizes offsets 0
+  pub data Passed (sizes offsets : List ℕ) : Result (Unit {0}) Refusal → Type 0 where
+    too_long : (j : ℕ) → j < count_of w → all_short s.body (walked_at F w j) ≡ false → Passed sizes offsets (Err TooLong)
+    too_far : Done (count_of w) false sizes offsets → Passed sizes offsets (Err TooFar)
+    resolved : Done (count_of w) true sizes offsets → Passed sizes offsets (Ok tt)
 
 -- refusal 9's test of the first j lists
 unfoldable pub clear_lists : List ℕ → List ℕ → ℕ → Bool
 clear_lists F w zero = true
 clear_lists F w (suc j) = all_clear (walked_at F w j) && clear_lists F w j
 
--- the answer, by the lists and tables: refusal 9 if a string has a zero byte; else 10, 11 or none
-pub data Answered {F w : List ℕ} (s : Sized F w) (sizes offsets : List ℕ) : Answer → Type 0 where
-  zero_byte : clear_lists F w (count_of w) ≡ false → Answered s sizes offsets (record { refusal = 9; bytes = 0 })
-  passed : {k : ℕ} → clear_lists F w (count_of w) ≡ true → Passed s sizes offsets k → Answered s sizes offsets (record { refusal = k; bytes = get_or sizes 0 0 })
+-- the answer, by the lists and tables: refused if a string has a zero byte, else as the passes refuse, or the bytes of the top list's body
+pub data Answered {F w : List ℕ} (s : Sized F w) (sizes offsets : List ℕ) : Result ℕ Refusal → Type 0 where
+  zero_byte : clear_lists F w (count_of w) ≡ false → Answered s sizes offsets (Err ZeroByte)
+  refused : {e : Refusal} → clear_lists F w (count_of w) ≡ true → Passed s sizes offsets (Err e) → Answered s sizes offsets (Err e)
+  passed : clear_lists F w (count_of w) ≡ true → Passed s sizes offsets (Ok tt) → Answered s sizes offsets (Ok (get_or sizes 0 0))

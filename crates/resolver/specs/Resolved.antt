@@ -1,5 +1,7 @@
 -- What the tables hold when no list is refused.
-use Rattle.std.specs.Prelude.{ℕ, suc, ◌-◌, ◌≤◌, ◌<◌, ◌≡◌, List, T, length, get_or}
+use Rattle.std.specs.Prelude.{ℕ, suc, ◌-◌, ◌≤◌, ◌<◌, ◌≡◌, List, T, length, get_or, Result, Ok, Err}
+use Rattle.refusal.specs.declared.Refusal.{Refusal}
+use Rattle.refusal.specs.Refusal.{number_of}
 use Rattle.pcode.specs.Pcode.{Branching, Item}
 use Rattle.action_format.specs.ByPlace.{actions, place_of_label}
 use Rattle.action_format.specs.Strings.{zero_free}
@@ -11,7 +13,6 @@ use Rattle.action_format.specs.ByList.{body_bytes, begins}
 use Rattle.list_slice.specs.Entry.{branch}
 use Rattle.definition.specs.Outcome.{by_place}
 use Rattle.definition.specs.Demand3.{list_at}
-use Rattle.resolver.specs.declared.Answer.{Answer}
 use Rattle.resolver.specs.Walk.{count_of, list_from, list_end, piece_at, walked}
 
 -- the place of the action that entry e of list k says: the actions that entries before it say
@@ -31,6 +32,6 @@ pub record Resolved (F w : List ℕ) (ls : List (List Item)) (sizes offsets : Li
   pub is_near : T (all_near (code (by_place ls)))
 
 -- the answer: the refusal that the definition gives, whatever the room, or the tables and the bytes of the top list's body
-pub data Resolves (F w : List ℕ) (ls : List (List Item)) (sizes offsets : List ℕ) : Answer → Type 0 where
-  refused : {n b : ℕ} → ((room : ℕ) → encode (by_place ls) room ≡ action_format.refused n) → Resolves F w ls sizes offsets (record { refusal = n; bytes = b })
-  good : {b : ℕ} → Resolved F w ls sizes offsets → b ≡ length (body_bytes (by_place ls) 0) → Resolves F w ls sizes offsets (record { refusal = 0; bytes = b })
+pub data Resolves (F w : List ℕ) (ls : List (List Item)) (sizes offsets : List ℕ) : Result ℕ Refusal → Type 0 where
+  refused : {e : Refusal} → ((room : ℕ) → encode (by_place ls) room ≡ action_format.refused (number_of e)) → Resolves F w ls sizes offsets (Err e)
+  good : {b : ℕ} → Resolved F w ls sizes offsets → b ≡ length (body_bytes (by_place ls) 0) → Resolves F w ls sizes offsets (Ok b)

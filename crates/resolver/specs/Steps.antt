@@ -1,5 +1,5 @@
 -- The walk through a list, entry by entry.
-use Rattle.std.specs.Prelude.{ℕ, suc, ◌+◌, ◌-◌, ◌≤◌, ◌<◌, ◌≡◌, ◌⊎◌, List, [], ◌∷◌, Bool, true, false, cond, ◌&&◌, ◌||◌, leb, ltb, eqb, length, get_or, set}
+use Rattle.std.specs.Prelude.{ℕ, suc, ◌+◌, ◌-◌, ◌≤◌, ◌<◌, ◌≡◌, ◌⊎◌, List, [], ◌∷◌, Bool, true, false, cond, ◌&&◌, ◌||◌, leb, ltb, eqb, length, get_or, set, Option, Some, None}
 use Rattle.pcode.specs.Pcode.{Branching, Action, Item, plain, push, branch, define, action, mark}
 use Rattle.action_format.specs.ByPlace.{actions}
 use Rattle.action_format.specs.Offsets.{sum, position, offset, reaches}
@@ -33,22 +33,21 @@ pub record Standing (F w : List ℕ) (from end : ℕ) : Type 0 where
 abbrev pub frame : (code : ℕ) → ℕ
 frame c = cond (ltb c 128) 1 3
 
-abbrev pub walk : (actions bytes last : ℕ) → (short : Bool) → Walk
-walk a b l s = record { actions = a; bytes = b; last = l; short = s }
-
-abbrev pub too_long : Walk → Walk
-too_long w = walk w.actions w.bytes w.last false
-
 abbrev pub begun : Walk → (code data' body : ℕ) → Walk
-begun w c d b = walk (w.actions + 1) (w.bytes + (frame c + d + b)) w.bytes true
+begun w c d b = record { actions = w.actions + 1; bytes = w.bytes + (frame c + d + b); last = w.bytes }
 
 abbrev pub joined : Walk → (data' : ℕ) → Walk
-joined w d = walk w.actions (w.bytes + d) w.last (leb (w.bytes + d - w.last) 65538)
+joined w d = record { actions = w.actions; bytes = w.bytes + d; last = w.last }
 
-abbrev pub stepped : Walk → (code data' body : ℕ) → Walk
+-- the walk if this is not too long
+abbrev pub unless_long : Bool → Walk → Option Walk
+unless_long short w = cond short (Some w) None
+
+-- none if a record or a body is too long
+abbrev pub stepped : Walk → (code data' body : ℕ) → Option Walk
 stepped w c d b =
-    cond (eqb c 257) w
-    (cond (leb d 65535) (cond (ltb c 0x120) (cond (leb b 65535) (begun w c d b) (too_long w)) (joined w d)) (too_long w))
+    cond (eqb c 257) (Some w)
+    (cond (leb d 65535) (cond (ltb c 0x120) (unless_long (leb b 65535) (begun w c d b)) (unless_long (leb (w.bytes + d - w.last) 65538) (joined w d))) None)
 
 -- numbers that can grow
 pub record Room (w : Walk) : Type 0 where
@@ -73,7 +72,7 @@ piece_body B (Piece.branch b l) = 0
 piece_body B (Piece.mark l) = 0
 piece_body B (Piece.value first v) = 0
 
-abbrev pub stepped_at : List ℕ → List ℕ → (sizes : List ℕ) → Walk → ℕ → Walk
+abbrev pub stepped_at : List ℕ → List ℕ → (sizes : List ℕ) → Walk → ℕ → Option Walk
 stepped_at F w sizes k e = stepped k (entry_at w e).code (piece_data (references_in F w) (piece_at w e)) (piece_body (bodies sizes) (piece_at w e))
 
 -- a whole list of short records, and where its places begin
@@ -83,9 +82,9 @@ pub record Measured (B : ℕ → ℕ) (is : List Item) (k : Walk) (starts : List
   pub most : k.bytes ≤ 536887296
   pub begins : (p : ℕ) → p ≤ length (measures B is) → get_or starts p 0 ≡ position (measures B is) p
 
-pub record Walked (B : ℕ → ℕ) (is : List Item) (k : Walk) (starts : List ℕ) : Type 0 where
-  pub good : k.short ≡ true → Measured B is k starts
-  pub bad : k.short ≡ false → all_short B is ≡ false
+pub record Walked (B : ℕ → ℕ) (is : List Item) (r : Option Walk) (starts : List ℕ) : Type 0 where
+  pub good : (k : Walk) → r ≡ Some k → Measured B is k starts
+  pub bad : r ≡ None → all_short B is ≡ false
 
 -- how many actions an entry adds, by its code
 abbrev pub adds : ℕ → ℕ

@@ -1,8 +1,6 @@
 -- The data bytes of entries, by their words.
 use Rattle.std.specs.Prelude.{ℕ, ◌+◌, ◌-◌, ◌*◌, ◌≤◌, ◌<◌, ◌≡◌, List, [], ◌∷◌, map, Bool, true, cond, ◌&&◌, T, ltb, eqb, length, take}
 use Rattle.hir.specs.Hir.{Str}
-use Rattle.hir.specs.declared.Record.{Record}
-use Rattle.hir.specs.declared.Record.TheVariants as kind
 use Rattle.pcode.specs.Pcode.{Param}
 use Rattle.script_records.specs.declared.layout.Layout.{Layout}
 use Rattle.script_records.specs.Layout.{layout_of}
@@ -13,7 +11,7 @@ use Rattle.action_format.specs.Bytes.{data_of_header}
 use Rattle.action_format.specs.Lists.{all}
 use Rattle.list_slice.specs.Entry.{Entry, Piece, entry_of}
 use Rattle.list_slice.specs.Words.{entry_at, pool_in}
-use Rattle.list_slice.specs.File.{no_string, text_in, header_in, names_function}
+use Rattle.list_slice.specs.File.{text_in, header_in, names_function}
 use Rattle.list_slice.specs.Compiled.{piece_named}
 use Rattle.resolver.specs.declared.text.Text.{Text}
 use Rattle.resolver.specs.declared.text.Data.{Data}
@@ -39,24 +37,8 @@ abbrev pub texts_of : List Str → Text
 texts_of [] = no_text
 texts_of (s ∷ ss) = with_text s (texts_of ss)
 
--- the reference of a parameter's name
-abbrev pub name_ref : Record → ℕ
-name_ref (kind.Parameter n r) = n
-name_ref (kind.ObjectField n) = n
-name_ref (kind.Statement k) = no_string
-name_ref (kind.Expr k) = no_string
-name_ref kind.Absent = no_string
-name_ref (kind.List n) = no_string
-name_ref kind.Case = no_string
-name_ref kind.Default = no_string
-name_ref kind.Other = no_string
-
 abbrev pub param_names : List Param → List Str
 param_names = map (λ (p : Param). p.name)
-
--- the reference of a function's name, whose word is the name's index plus 1, or 0
-abbrev pub function_name : ℕ → ℕ
-function_name a = cond (eqb a 0) no_string (a - 1)
 
 abbrev pub data_of : ℕ → Bool → Data
 data_of n c = record { bytes = n; clear = c }

@@ -2,10 +2,10 @@
 use Prim.Native.Nat.{ℕ, zero, suc, ◌-◌, ◌≤◌, ◌<◌}
 use mathlib.Core.Path.{◌≡◌, refl, sym, ap, ◌∙◌}
 use mathlib.Core.List.{List, [], ◌∷◌}
-use mathlib.Core.Bool.{Bool, true, false, cond}
+use mathlib.Core.Bool.{Bool, true, false}
 use native.Mathlib.Omega.{arith}
-use lib.Dec.{ltb, eqb}
-use borrow.Author.Tests.{eq-eqb, ne_eqb}
+use native.Mathlib.Nat.{add-zero}
+use lib.Dec.{ltb}
 use Rattle.script_records.specs.declared.layout.Layout.{Layout}
 use Rattle.script_records.specs.declared.part.Part.{Part}
 use Rattle.script.specs.Resolve.{resolved}
@@ -16,18 +16,25 @@ use Rattle.lowering.specs.Meaning.{Loop, hoisted}
 use Rattle.lowering.specs.Statement.{meanings, gen_those, gen_statements, gen_block}
 use Rattle.codegen_state.specs.View.{Waiting, Held, holds, stopped, back, carry, after}
 use Rattle.codegen_state.proofs.Steps.{after_then, after_done}
+use Rattle.std.specs.Prelude.{Option, Some, None, IfSome}
+use Rattle.script_records.specs.declared.layout.ScriptFile.{ScriptFile}
+use Rattle.tree.specs.declared.Trees.{Trees}
+use Rattle.tree.specs.Handle.{IsRest}
 use Rattle.tree.specs.Trees.{node_of, kind_at}
 use Rattle.tree.specs.Within.{Within, IsList, meanings_at, kid_at, list_at}
 use Rattle.tree.proofs.Nodes.{is_node, trees_none}
+use Rattle.tree.proofs.ByKind.{kind_none}
 use Rattle.tree.proofs.Meanings.{kid_zero}
 use Rattle.builder.specs.Labels.{labels_of_forest}
 use Rattle.rows.specs.declared.Each.{Each}
 use Rattle.rows.specs.declared.Each.TheVariants.{Hoisted, Unhoisted}
-use Rattle.rows.specs.Rows.{one_of, each_of, cases_of}
+use Rattle.rows.specs.Rows.{loop_of, one_of, each_of, cases_of}
 use Rattle.rows.specs.Kept.{upto, start_of, Kept, of_passed}
-use Rattle.rows.specs.Innermost.{Same, Unlabelled, Only, Innermost}
-use Rattle.rows.proofs.Passed.{node_is, passed_out, block_root}
-use Rattle.rows.proofs.Kept.{each_more, before_is, same_part, RowInv, row_start, row_out, row_in_lem, row_less, row_done}
+use Rattle.std.specs.Option.{is_some, is_none}
+use Rattle.rows.specs.declared.Loop as code
+use Rattle.rows.specs.Innermost.{Same, Unlabelled, Only, Innermost, IsOnly}
+use Rattle.rows.proofs.Passed.{never, node_is, passed_out, block_root}
+use Rattle.rows.proofs.Kept.{no_label, each_more, before_is, same_part, Going, going_start, going_on, Noted, noted_start, noted_out, noted_in, noted_all}
 use Rattle.rows.proofs.Statements.{hoisted_each, others_each}
 
 -- what a pop leaves
@@ -108,58 +115,76 @@ module _ (F : List ℕ) (l : Layout) (lp : Loop) (lo j last : ℕ) (h : Kept F l
       after_then v (gen_those true lp ms) (gen_those false lp ms) ∙ rw a b
 
 -- the loop: at most one tree is kept
-abbrev noted : Part → ℕ
-noted p = cond (eqb p.n 0) 0 1
+abbrev end_of : Option Trees → ℕ
+end_of None = 0
+end_of (Some t) = t.part.end
 
-pub record OnlyInv (F : List ℕ) (l : Layout) (breaks continues : Bool) (g0 found g : Part) : Type 0 where
-  pub row : RowInv F l (of_passed F l 4 breaks continues) g0 (found.end ∷ []) g (noted found)
-  pub is : (found.n ≡ 0 → ⊥) → upto (g0.end - g0.n) found.end ≡ found
-  pub within : (found.n ≡ 0 → ⊥) → Within F l found
-  pub fewer : found.n ≤ g0.n
+abbrev count_of : Option Trees → ℕ
+count_of None = 0
+count_of (Some t) = 1
 
-module _ (F : List ℕ) (l : Layout) (breaks continues : Bool) where
-  pub only_start : {g found : Part} → Within F l g → found.n ≡ 0 → OnlyInv F l breaks continues g found g
-  only_start {g} {found} w z = record {
-    row = rw (eq-eqb found.n 0 z) (row_start F l (of_passed F l 4 breaks continues) (found.end ∷ []) g w);
-    is = λ h. absurd (h z);
-    within = λ h. absurd (h z);
-    fewer = omega arith;
-  }
+module _ (S : ScriptFile) (breaks continues : Bool) where
+  abbrev is_out : Part → Bool
+  is_out = of_passed S.bytes.now S.layout 4 breaks continues
 
-  module _ {g0 found g : Part} (i : OnlyInv F l breaks continues g0 found g) (h : g.n ≡ 0 → ⊥) {rest : Part} (e : rest ≡ (node_of F l g).before) where
-    pub only_out : of_passed F l 4 breaks continues g ≡ true → OnlyInv F l breaks continues g0 found rest
-    only_out k = record { row = row_out i.row h e k; is = i.is; within = i.within; fewer = i.fewer }
+  -- the tree that was found in g0
+  pub record IsFound (g0 : Part) (t : Trees) : Type 0 where
+    pub script : t.script ≡ S
+    pub is : upto (g0.end - g0.n) t.part.end ≡ t.part
+    pub fewer : t.part.n ≤ g0.n
 
-    pub only_in : found.n ≡ 0 → OnlyInv F l breaks continues g0 g rest
+  pub record OnlyInv (g0 : Part) (found : Option Trees) (left : Trees) : Type 0 where
+    pub script : left.script ≡ S
+    pub going : Going S.bytes.now S.layout g0 left.part (count_of found)
+    pub noted : Noted S.bytes.now S.layout is_out g0 (end_of found ∷ []) left.part (count_of found)
+    pub tree : IfSome found (IsFound g0)
+
+  pub only_start : (t : Trees) → t.script ≡ S → OnlyInv t.part None t
+  only_start t e = record { script = e; going = going_start (rw e at t.within); noted = noted_start; tree = tt }
+
+  module _ {g0 : Part} {found : Option Trees} {left : Trees} (i : OnlyInv g0 found left) (h : 0 < left.part.n) {rest : Trees} (r : IsRest left rest) where
+    abbrev goes : rest.part ≡ (node_of S.bytes.now S.layout left.part).before
+    goes =
+        let e : rest.part ≡ (node_of left.script.bytes.now left.script.layout left.part).before = r.part in
+        rw i.script at e
+
+    pub only_out : is_out left.part ≡ true → OnlyInv g0 found rest
+    only_out k = record { script = r.script ∙ i.script; going = rw (add-zero (count_of found)) at (going_on i.going h goes {r = 0} (omega arith)); noted = noted_out i.going h goes i.noted k; tree = i.tree }
+
+    pub only_in : found ≡ None → OnlyInv g0 (Some left) rest
     only_in z =
-        let r : RowInv F l (of_passed F l 4 breaks continues) g0 (found.end ∷ []) g 0 = rw (eq-eqb found.n 0 z) at i.row in
+        let c = i.going in
         record {
-          row = rw (ne_eqb g.n 0 h) (row_in_lem r h e (omega arith));
-          is = λ _. same_part (g0.end - g0.n) g r.end;
-          within = λ _. r.within;
-          fewer = omega (arith, r.less);
+          script = r.script ∙ i.script;
+          going = going_on (rw z at i.going) h goes {r = 1} (omega arith);
+          noted = noted_in (rw z at i.going) h goes (rw z at i.noted) (omega arith);
+          tree = record { script = i.script; is = same_part (g0.end - g0.n) left.part i.going.end; fewer = omega (arith, i.going.less) };
         }
 
-    -- what is found after one more tree, by whether that one is passed over
-    pub only_next : {out : Bool} → out ≡ of_passed F l 4 breaks continues g → {now : Part} → (out ≡ true → now ≡ found) → (out ≡ false → (found.n ≡ 0) × (now ≡ g)) → OnlyInv F l breaks continues g0 now rest
-    only_next {out = true} k a b = rw (a refl) (only_out (sym k))
-    only_next {out = false} k a b = let (z, q) = b refl in rw q (only_in z)
-
-    pub only_less : rest.n < g.n
-    only_less = row_less i.row h e
-
-  pub only_done : {g0 found g : Part} → OnlyInv F l breaks continues g0 found g → Within F l g0 → g.n ≡ 0 → (found.n ≡ 0 → ⊥) → Only F l breaks continues g0 found
-  only_done {g0} {found} i w z h =
-      let k = row_done (rw (ne_eqb found.n 0 h) at i.row) z in
+  pub only_done : (row : Trees) {t left : Trees} → row.script ≡ S → OnlyInv row.part (Some t) left → left.part.n ≡ 0 → Only S.bytes.now S.layout breaks continues row.part t.part
+  only_done row {t} s i z =
+      let g0 = row.part in
+      let f = i.tree in
+      let w : Within S.bytes.now S.layout row.part = rw s at row.within in
+      let k = noted_all i.going i.noted z in
       let p : upto (g0.end - g0.n) g0.end ≡ g0 = same_part (g0.end - g0.n) g0 (omega (arith, w.inside)) in
       record {
-        within = i.within h;
-        fewer = i.fewer;
+        within = rw f.script at t.within;
+        fewer = f.fewer;
         same = λ lp (nb, nc) n.
-            let x = k Hoisted lp (λ q w z h. passed_out F l q w z 4 breaks continues h Hoisted refl lp nb nc) in
-            let y = k Unhoisted lp (λ q w z h. passed_out F l q w z 4 breaks continues h Unhoisted refl lp nb nc) in
-            rw (p, i.is h) at (one_statement F l lp (g0.end - g0.n) found.end g0.end x y (rw (i.is h) n));
+            let x = k Hoisted lp (λ q w z h. passed_out S.bytes.now S.layout q w z 4 breaks continues h Hoisted refl lp nb nc) in
+            let y = k Unhoisted lp (λ q w z h. passed_out S.bytes.now S.layout q w z 4 breaks continues h Unhoisted refl lp nb nc) in
+            rw (p, f.is) at (one_statement S.bytes.now S.layout lp (g0.end - g0.n) t.part.end g0.end x y (rw f.is n));
       }
+
+pub none_found : {A : Type 0} (o : Option A) → false ≡ is_some o → o ≡ None
+none_found None h = refl
+none_found (Some x) h = never h
+
+pub only_found : (row : Trees) (lp : code.Loop) (found : Option Trees) {left : Trees} → OnlyInv row.script (is_none lp.exit) (is_none lp.next) row.part found left → left.part.n ≡ 0 →
+    IfSome found (λ t. IsOnly lp row t)
+only_found row lp None i z = tt
+only_found row lp (Some t) i z = record { script = i.tree.script; only = only_done _ _ _ row refl i z }
 
 -- a Block that is the only one
 module _ (F : List ℕ) (l : Layout) {breaks continues : Bool} {p block : Part} (o : Only F l breaks continues p block) (k : kind_at F l block ≡ 4) {kids : Part} (is : kids ≡ (node_of F l block).children) {inner : Part} (i : IsList F l kids 0 inner) (lp : Loop) (u : Unlabelled breaks continues lp) where
@@ -176,34 +201,34 @@ module _ (F : List ℕ) (l : Layout) {breaks continues : Bool} {p block : Part} 
       let s : Same (gen_statements lp (meanings_at F p)) (gen_block lp (meanings_at F inner)) = λ v. o.same lp u no_function v ∙ ap (after v) is_block in
       framed_same (gen_statements lp (meanings_at F p)) (gen_block lp (meanings_at F inner)) s v ∙ framed_once (gen_statements lp (meanings_at F inner)) v
 
+block_there : (F : List ℕ) (l : Layout) (p : Part) → kind_at F l p ≡ 4 → p.n ≡ 0 → ⊥
+block_there F l p k h = omega (arith, kind_none F l p h ∙ k)
+
 -- the loop: from Block to Block
-pub record InnerInv (F : List ℕ) (l : Layout) (breaks continues : Bool) (p inner block : Part) : Type 0 where
-  pub come : (lp : Loop) → Unlabelled breaks continues lp → Innermost F l lp p inner
-  pub within : Within F l inner
-  pub next : (block.n ≡ 0 → ⊥) → Only F l breaks continues inner block × (kind_at F l block ≡ 4)
+pub record InnerInv (S : ScriptFile) (lp : code.Loop) (row inner : Trees) : Type 0 where
+  pub script : inner.script ≡ S
+  pub come : Innermost S.bytes.now S.layout (loop_of lp) row.part inner.part
 
-module _ (F : List ℕ) (l : Layout) (breaks continues : Bool) where
-  pub inner_start : {p block : Part} → Within F l p → ((block.n ≡ 0 → ⊥) → Only F l breaks continues p block × (kind_at F l block ≡ 4)) → InnerInv F l breaks continues p p block
-  inner_start w n = record { come = λ lp u. record { within = w; fewer = omega arith; same = λ v. refl }; within = w; next = n }
+pub inner_start : (row : Trees) (lp : code.Loop) → InnerInv row.script lp row row
+inner_start row lp = record { script = refl; come = record { within = row.within; fewer = omega arith; same = λ v. refl } }
 
-  module _ {p inner block : Part} (i : InnerInv F l breaks continues p inner block) (h : block.n ≡ 0 → ⊥) {kids : Part} (is : kids ≡ (node_of F l block).children) where
-    pub kids_inner : Within F l kids
-    kids_inner = rw is (node_is F l block (i.next h).0.within).kids_within
+module _ {S : ScriptFile} {lp : code.Loop} {row inner block : Trees} (i : InnerInv S lp row inner) (o : IsOnly lp inner block) (four : kind_at S.bytes.now S.layout block.part ≡ 4) where
+  abbrev only : Only S.bytes.now S.layout (is_none lp.exit) (is_none lp.next) inner.part block.part
+  only =
+      let p : Only inner.script.bytes.now inner.script.layout (is_none lp.exit) (is_none lp.next) inner.part block.part = o.only in
+      rw i.script at p
 
-    module _ {deeper : Part} (k : IsList F l kids 0 deeper) where
-      pub inner_less : deeper.n < inner.n
-      inner_less =
-          let a = (node_is F l block (i.next h).0.within).apart in
-          let b = rw is at k.fewer in
-          omega (arith, a, b, (i.next h).0.fewer)
+  module _ {kids : Part} (is : kids ≡ (node_of S.bytes.now S.layout block.part).children) {deeper : Part} (k : IsList S.bytes.now S.layout kids 0 deeper) where
+    pub inner_less : deeper.n < inner.part.n
+    inner_less =
+        let a = (node_is S.bytes.now S.layout block.part only.within).apart in
+        let b = rw is at k.fewer in
+        let z = block_there S.bytes.now S.layout block.part four in
+        omega (arith, a, b, z, only.fewer)
 
-      pub inner_again : {next : Part} → ((next.n ≡ 0 → ⊥) → Only F l breaks continues deeper next × (kind_at F l next ≡ 4)) → InnerInv F l breaks continues p deeper next
-      inner_again n = record {
-        come = λ lp u. record {
-          within = k.within;
-          fewer = omega (arith, inner_less, (i.come lp u).fewer);
-          same = λ v. (i.come lp u).same v ∙ block_inside F l (i.next h).0 (i.next h).1 is k lp u v;
-        };
-        within = k.within;
-        next = n;
-      }
+    pub inner_again : Innermost S.bytes.now S.layout (loop_of lp) row.part deeper
+    inner_again = record {
+      within = k.within;
+      fewer = omega (arith, inner_less, i.come.fewer);
+      same = λ v. i.come.same v ∙ block_inside S.bytes.now S.layout only four is k (loop_of lp) (no_label lp.exit, no_label lp.next) v;
+    }

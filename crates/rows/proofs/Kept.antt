@@ -2,16 +2,21 @@
 use Prim.Native.Nat.{ℕ, zero, suc, ◌+◌, ◌-◌, ◌≤◌, ◌<◌, min}
 use mathlib.Core.Path.{◌≡◌, refl, sym, ap, ◌∙◌, subst}
 use mathlib.Core.List.{List}
-use mathlib.Core.Bool.{Bool, true, false}
-use mathlib.Core.Option.{Option, none, some}
+use mathlib.Core.Bool.{Bool, true, false, not}
+use Rattle.std.specs.Int.{from_bool}
+use mathlib.Core.Option.{none}
+use Rattle.std.specs.Prelude as std
+use Rattle.std.specs.Option.{is_none}
+use Rattle.pcode.specs.declared.Label.{Label}
 use native.Mathlib.Omega.{arith}
 use native.Mathlib.Nat.{add-zero}
 use native.Mathlib.Numerals.{add-one, sub-one}
-use lib.ListN.{length, get_or, set, length-set}
+use lib.ListN.{length, get_or, set, take}
+use Rattle.std.proofs.lemmas.List.{get_or-take, length-take-le}
 use lib.Seq.{get_or-set_same, get_or-set_other}
 use Rattle.script_records.specs.declared.layout.Layout.{Layout}
 use Rattle.script_records.specs.declared.part.Part.{Part}
-use Rattle.script_records.specs.Layout.{layout_of, rows_of, row_in, HasRow}
+use Rattle.script_records.specs.Layout.{rows_of, row_in}
 use Rattle.script_records.proofs.Trees.{span_le}
 use Rattle.hir.specs.Tree.{Forest}
 use Rattle.lowering.specs.Builder.{◌>>◌}
@@ -21,26 +26,26 @@ use Rattle.lowering.specs.Statement.{meanings}
 use Rattle.codegen_state.specs.View.{Held, after}
 use Rattle.codegen_state.proofs.Steps.{after_then, after_done}
 use Rattle.tree.specs.declared.Node.{Node}
-use Rattle.tree.specs.Trees.{rows_in, rec_of, node_of, kind_at}
+use Rattle.tree.specs.Trees.{rows_in, rec_of, node_of}
 use Rattle.tree.specs.Within.{Within, IsNode, meanings_at, kid_at, list_at}
 use Rattle.tree.proofs.Nodes.{is_node, trees_none, trees_more}
 use Rattle.tree.proofs.Meanings.{kid_zero}
 use Rattle.builder.specs.Labels.{labels_of_forest, one_label}
 use Rattle.rows.specs.declared.Each.{Each}
 use Rattle.rows.specs.declared.Each.TheVariants.{Conditional, Element}
-use Rattle.rows.specs.Rows.{one_of, each_of, cases_of, one_case}
-use Rattle.rows.specs.Kept.{is_nowhere, Quiet, upto, start_of, Idle, Kept, keeps, Unlabelled, KeptDown, KeptOf}
+use Rattle.rows.specs.Rows.{label_of, one_of, each_of, cases_of, one_case}
+use Rattle.rows.specs.Kept.{Quiet, upto, start_of, Idle, Kept, Unlabelled, KeptDown, KeptOf}
 use Rattle.rows.proofs.Passed.{never, unlabelled}
 use Rattle.tree.proofs.ByKind.{last_kind}
-use lib.Dec.{eqb, ltb}
-use borrow.Author.Tests.{eqb-true, eqb-false, ltb-true, ltb-false}
+use lib.Dec.{ltb}
+use borrow.Author.Tests.{ltb-true, ltb-false}
 
-pub nowhere : (o : Option ℕ) → {b : Bool} → b ≡ is_nowhere o → b ≡ true → o ≡ none
-nowhere none h t = refl
-nowhere (some label) h t = never (sym h ∙ t)
+pub no_label : (o : std.Option Label) → is_none o ≡ true → label_of o ≡ none
+no_label std.None h = refl
+no_label (std.Some label) h = never h
 
 -- a row, by its last tree
-module _ (F : List ℕ) (l : Layout) (p : Part) {t : Node} (i : IsNode F l p t) (h : 0 < p.n) where
+module _ (F : List ℕ) (l : Layout) (p : Part) {t : Node Part} (i : IsNode F l p t) (h : 0 < p.n) where
   pub each_more : (e : Each) (lp : Loop) (f d : ℕ) → each_of e lp f d (meanings_at F p) ≡
       each_of e lp f d (meanings_at F t.before) >> one_of e lp f d (labels_of_forest (meanings_at F t.before)) (cases_of (meanings_at F t.before)) (kid_at F p 0) (list_at F p 0)
   unfolding meanings each_of
@@ -69,7 +74,7 @@ sub_sub : (j lo s q : ℕ) → lo ≤ q → q < j → j - s ≡ q → j - lo - s
 sub_sub j lo s q a b e = omega arith
 
 -- the trees before the last of those up to j
-pub before_is : (F : List ℕ) (l : Layout) (lo j : ℕ) {t : Node} → IsNode F l (upto lo j) t → lo ≤ start_of F lo j → start_of F lo j < j → t.before ≡ upto lo (start_of F lo j)
+pub before_is : (F : List ℕ) (l : Layout) (lo j : ℕ) {t : Node Part} → IsNode F l (upto lo j) t → lo ≤ start_of F lo j → start_of F lo j < j → t.before ≡ upto lo (start_of F lo j)
 before_is F l lo j g a u = part_is _ _ _ g.end (g.n ∙ sub_sub j lo _ _ a u refl)
 
 module _ (F : List ℕ) (l : Layout) (lo j : ℕ) (w : Within F l (upto lo j)) (a : lo ≤ start_of F lo j) (u : start_of F lo j < j) (e : Each) (lp : Loop) where
@@ -99,6 +104,13 @@ module _ (F : List ℕ) (l : Layout) (e : Each) (lp : Loop) (lo : ℕ) where
       let c' = kept_same x y u (get_or x u 0) last (λ k p. h k (omega arith)) c.4 in
       rw (← h u (omega arith)) (c.0, c.1, c.2, c.3, c')
 
+  -- those among the first of x
+  pub kept_taken : (x : List ℕ) (n top q last : ℕ) → top ≤ n → Kept F l e lp lo (take n x) top q last → Kept F l e lp lo x top q last
+  kept_taken x n top q last h = kept_same (take n x) x top q last (λ k p. get_or-take n x k 0 (omega arith))
+
+  pub kept_take : (x : List ℕ) (n q last : ℕ) → n ≤ length x → Kept F l e lp lo x n q last → Kept F l e lp lo (take n x) (length (take n x)) q last
+  kept_take x n q last h c = rw (length-take-le n x h) (kept_same x (take n x) n q last (λ k p. sym (get_or-take n x k 0 p)) c)
+
   -- a tree that generates nothing stands before them
   pub kept_skip : (x : List ℕ) (top q1 q last : ℕ) → Idle F e lp lo q1 q → Kept F l e lp lo x top q last → Kept F l e lp lo x top q1 last
   unfolding Kept
@@ -114,35 +126,37 @@ module _ (F : List ℕ) (l : Layout) (e : Each) (lp : Loop) (lo : ℕ) where
       let c' = kept_same x (set x top q) top q last (λ k p. sym (get_or-set_other x top k q 0 (omega arith))) c in
       rw (add-one, g) (idle_none (start_of F lo q), u, r, w, c')
 
-keeps_most : (b : Bool) → keeps b ≤ 1
-keeps_most true = omega arith
-keeps_most false = omega arith
-
 both_end : (e n lo s e1 n1 : ℕ) → e ≡ lo + n → s ≤ n → e1 ≡ e - s → n1 ≡ n - s → e1 ≡ lo + n1
 both_end e n lo s e1 n1 a b c d = omega arith
 
-both_less : (e n lo e1 n1 k : ℕ) → e ≡ lo + n → e1 ≡ lo + n1 → min 1 n + k + n1 ≤ n → (n ≡ 0 → ⊥) → e1 < e
+both_less : (e n lo e1 n1 k : ℕ) → e ≡ lo + n → e1 ≡ lo + n1 → min 1 n + k + n1 ≤ n → 0 < n → e1 < e
 both_less e n lo e1 n1 k a b l h = omega arith
 
-less_left : (top n n0 k n1 r : ℕ) → min 1 n + k + n1 ≤ n → (n ≡ 0 → ⊥) → top + n ≤ n0 → r ≤ 1 → top + r + n1 ≤ n0
+less_left : (top n n0 k n1 r : ℕ) → min 1 n + k + n1 ≤ n → 0 < n → top + n ≤ n0 → r ≤ 1 → top + r + n1 ≤ n0
 less_left top n n0 k n1 r a h b c = omega arith
 
 pub same_part : (lo : ℕ) (g : Part) → g.end ≡ lo + g.n → upto lo g.end ≡ g
 same_part lo g e = let d : g.end - lo ≡ g.n = omega arith in rw d
 
--- the walk: of the trees after g, which is a part of g0, the ends are in x
-pub record RowInv (F : List ℕ) (l : Layout) (out : Part → Bool) (g0 : Part) (x : List ℕ) (g : Part) (top : ℕ) : Type 0 where
-  pub kept : (e : Each) (lp : Loop) → ((q : Part) → Within F l q → (q.n ≡ 0 → ⊥) → out q ≡ true → Quiet F q e lp) → Kept F l e lp (g0.end - g0.n) x top g.end g0.end
+-- the walk: g is a part of g0 from its start on
+pub record Going (F : List ℕ) (l : Layout) (g0 g : Part) (top : ℕ) : Type 0 where
   pub end : g.end ≡ g0.end - g0.n + g.n
   pub start : g0.n ≤ g0.end
   pub within : Within F l g
   pub less : top + g.n ≤ g0.n
 
-pub row_start : (F : List ℕ) (l : Layout) (out : Part → Bool) (x : List ℕ) (g : Part) → Within F l g → RowInv F l out g x g 0
-unfolding Kept
-row_start F l out x g i = record { kept = λ e lp o. idle_none g.end; end = omega (arith, i.inside); start = i.inside; within = i; less = omega arith }
+pub going_start : {F : List ℕ} {l : Layout} {g : Part} → Within F l g → Going F l g g 0
+going_start {g = g} i = record { end = omega (arith, i.inside); start = i.inside; within = i; less = omega arith }
 
-module _ {F : List ℕ} {l : Layout} {out : Part → Bool} {g0 : Part} {x : List ℕ} {g : Part} {top : ℕ} (i : RowInv F l out g0 x g top) (h : g.n ≡ 0 → ⊥) where
+-- of the trees after g, the ends are in x
+pub record Noted (F : List ℕ) (l : Layout) (out : Part → Bool) (g0 : Part) (x : List ℕ) (g : Part) (top : ℕ) : Type 0 where
+  pub kept : (e : Each) (lp : Loop) → ((q : Part) → Within F l q → (q.n ≡ 0 → ⊥) → out q ≡ true → Quiet F q e lp) → Kept F l e lp (g0.end - g0.n) x top g.end g0.end
+
+pub noted_start : {F : List ℕ} {l : Layout} {out : Part → Bool} {x : List ℕ} {g : Part} → Noted F l out g x g 0
+unfolding Kept
+noted_start {g = g} = record { kept = λ e lp o. idle_none g.end }
+
+module _ {F : List ℕ} {l : Layout} {g0 g : Part} {top : ℕ} (i : Going F l g0 g top) (h : 0 < g.n) where
   node : IsNode F l g (node_of F l g)
   node = is_node F l g i.within refl
 
@@ -164,77 +178,45 @@ module _ {F : List ℕ} {l : Layout} {out : Part → Bool} {g0 : Part} {x : List
   low : lo ≤ start_of F lo g.end
   low = rw start_is (omega (arith, before_end))
 
-  -- the last tree of g is left out, or its end is noted
-  pub row_out : {rest : Part} → rest ≡ (node_of F l g).before → out g ≡ true → RowInv F l out g0 x rest top
-  row_out e k = rw e (record {
-    kept = λ o lp a.
-        let q : Quiet F (upto lo g.end) o lp = rw (same_part lo g i.end) (a g i.within h k) in
-        let t = tree_idle F l lo g.end in_row low down o lp (λ f d. q.0 f d _ _) q.1 in
-        rw (← start_is) (kept_skip F l o lp lo x top _ g.end g0.end t (i.kept o lp a));
-    end = before_end;
-    start = i.start;
-    within = node.rest_within;
-    less = omega (arith, less_left _ _ _ _ _ 0 node.apart h i.less (omega arith));
-  })
+  module _ {rest : Part} (e : rest ≡ (node_of F l g).before) where
+    pub going_on : {r : ℕ} → r ≤ 1 → Going F l g0 rest (top + r)
+    going_on {r} c = rw e (record { end = before_end; start = i.start; within = node.rest_within; less = less_left _ _ _ _ _ r node.apart h i.less c })
 
-  pub row_in_lem : {rest : Part} → rest ≡ (node_of F l g).before → top < length x → RowInv F l out g0 (set x top g.end) rest (top + 1)
-  row_in_lem e r = rw e (record {
-    kept = λ o lp a. rw (← start_is) (kept_push F l o lp lo x top g.end g0.end r down (omega (arith, i.end, i.start, i.less)) in_row (i.kept o lp a));
-    end = before_end;
-    start = i.start;
-    within = node.rest_within;
-    less = less_left _ _ _ _ _ _ node.apart h i.less (omega arith);
-  })
+    -- the last tree of g is left out, or its end is noted
+    pub noted_out : {out : Part → Bool} {x : List ℕ} → Noted F l out g0 x g top → out g ≡ true → Noted F l out g0 x rest top
+    noted_out {out} {x} n k = rw e (record {
+      kept = λ o lp a.
+          let q : Quiet F (upto lo g.end) o lp = rw (same_part lo g i.end) (a g i.within (λ z. omega (arith, z)) k) in
+          let t = tree_idle F l lo g.end in_row low down o lp (λ f d. q.0 f d _ _) q.1 in
+          rw (← start_is) (kept_skip F l o lp lo x top _ g.end g0.end t (n.kept o lp a));
+    })
 
-  pub row_less : {rest : Part} → rest ≡ (node_of F l g).before → rest.n < g.n
-  row_less e = rw e (omega (arith, node.apart))
+    pub noted_in : {out : Part → Bool} {x : List ℕ} → Noted F l out g0 x g top → top < length x → Noted F l out g0 (set x top g.end) rest (top + 1)
+    noted_in {out} {x} n r =
+        rw e (record { kept = λ o lp a. rw (← start_is) (kept_push F l o lp lo x top g.end g0.end r down (omega (arith, i.end, i.start, i.less)) in_row (n.kept o lp a)) })
 
--- other words of x may change
-pub row_same : {F : List ℕ} {l : Layout} {out : Part → Bool} {g0 : Part} {x : List ℕ} (y : List ℕ) {g : Part} {top : ℕ} → ((k : ℕ) → k < top → get_or x k 0 ≡ get_or y k 0) →
-    RowInv F l out g0 x g top → RowInv F l out g0 y g top
-row_same {F} {l} {out} {g0} {x} y {g} {top} e i =
-    record { kept = λ o lp a. kept_same F l o lp (g0.end - g0.n) x y top g.end g0.end e (i.kept o lp a); end = i.end; start = i.start; within = i.within; less = i.less }
+    -- the same as one step
+    pub noted_more : {out : Part → Bool} {x : List ℕ} → Noted F l out g0 x g top → top < length x → {b : Bool} → b ≡ out g → {r : ℕ} → r ≡ from_bool (not b) → Noted F l out g0 (set x top g.end) rest (top + r)
+    noted_more {out} {x} n r {b = true} q k =
+        let m = noted_out n (sym q) in
+        rw (k, add-zero top)
+        (record { kept = λ o lp a. kept_same F l o lp lo x (set x top g.end) top rest.end g0.end (λ k p. sym (get_or-set_other x top k g.end 0 (omega arith))) (m.kept o lp a) })
+    noted_more n r {b = false} q k = rw k (noted_in n r)
 
--- the loop: the ends are in a slice with room for all
-pub record EndsInv (F : List ℕ) (l : Layout) (out : Part → Bool) (x0 : List ℕ) (g0 : Part) (x : List ℕ) (g : Part) (top : ℕ) : Type 0 where
-  pub row : RowInv F l out g0 x g top
-  pub scratch : length x ≡ length x0
-  pub room : g0.n ≤ length x0
-  pub small : g0.n < 65536
-
-pub ends_start : (F : List ℕ) (l : Layout) (out : Part → Bool) (x : List ℕ) (g : Part) → Within F l g → g.n ≤ length x → EndsInv F l out x g x g 0
-ends_start F l out x g i r = record { row = row_start F l out x g i; scratch = refl; room = r; small = omega (arith, i.inside, i.known, i.sound.few) }
-
-module _ {F : List ℕ} {l : Layout} {out : Part → Bool} {x0 : List ℕ} {g0 : Part} {x : List ℕ} {g : Part} {top : ℕ} (i : EndsInv F l out x0 g0 x g top) (h : g.n ≡ 0 → ⊥) where
-  pub ends_inside : top < length x
-  ends_inside = omega (arith, i.row.less, i.scratch, i.room)
-
-  step : (b : Bool) → out g ≡ b → {rest : Part} → rest ≡ (node_of F l g).before → RowInv F l out g0 (set x top g.end) rest (top + keeps b)
-  step true k e = rw (add-zero top) (row_same (set x top g.end) (λ k p. sym (get_or-set_other x top k g.end 0 (omega arith))) (row_out i.row h e k))
-  step false k e = row_in_lem i.row h e ends_inside
-
-  pub ends_again : {rest : Part} {b : Bool} {r : ℕ} → rest ≡ (node_of F l g).before → b ≡ out g → r ≡ keeps b → EndsInv F l out x0 g0 (set x top g.end) rest (top + r)
-  ends_again {b = b} e q k = rw k (record { row = step b (sym q) e; scratch = rw length-set i.scratch; room = i.room; small = i.small })
-
-  pub ends_few : {b : Bool} {r : ℕ} → b ≡ out g → r ≡ keeps b → top + r < 65536
-  ends_few {b} q k = rw k (omega (arith, keeps_most b, i.row.less, i.small))
-
-  pub ends_less : {rest : Part} → rest ≡ (node_of F l g).before → rest.n < g.n
-  ends_less e = row_less i.row h e
+pub one_most : (b : Bool) → from_bool b ≤ 1
+one_most true = omega arith
+one_most false = omega arith
 
 -- where the walk stops
-module _ {F : List ℕ} {l : Layout} {out : Part → Bool} {g0 : Part} {x : List ℕ} {g : Part} {top : ℕ} {stop : ℕ} (i : RowInv F l out g0 x g top) where
-  pub row_some : g0.end - g0.n ≤ stop → stop < g.end → g.n ≡ 0 → ⊥
-  row_some h k z = omega (arith, i.end)
+pub noted_down : {F : List ℕ} {l : Layout} {out : Part → Bool} {g0 : Part} {x : List ℕ} {g : Part} {top stop : ℕ} → Going F l g0 g top → Noted F l out g0 x g top → g.end ≤ stop →
+    KeptDown F l out stop g0 x top
+noted_down {g0 = g0} {g = g} i n h e lp a = (g.end, h, omega (arith, i.end), rw (same_part (g0.end - g0.n) g i.end) i.within, n.kept e lp a)
 
-  pub row_down : g.end ≤ stop → KeptDown F l out stop g0 x top
-  row_down h e lp a = (g.end, h, omega (arith, i.end), rw (same_part (g0.end - g0.n) g i.end) i.within, i.kept e lp a)
-
-pub row_done : {F : List ℕ} {l : Layout} {out : Part → Bool} {g0 : Part} {x : List ℕ} {g : Part} {top : ℕ} → RowInv F l out g0 x g top → g.n ≡ 0 →
+pub noted_all : {F : List ℕ} {l : Layout} {out : Part → Bool} {g0 : Part} {x : List ℕ} {g : Part} {top : ℕ} → Going F l g0 g top → Noted F l out g0 x g top → g.n ≡ 0 →
     (e : Each) (lp : Loop) → ((q : Part) → Within F l q → (q.n ≡ 0 → ⊥) → out q ≡ true → Quiet F q e lp) → KeptOf F l e lp g0 x top
-row_done {g0 = g0} {x} {g} {top} i z e lp a =
+noted_all {g0 = g0} {g = g} i n z e lp a =
     let d : g.end ≡ g0.end - g0.n = omega (arith, i.end) in
-    rw d at (i.kept e lp a)
+    rw d at (n.kept e lp a)
 
 pub down_all : (F : List ℕ) (l : Layout) (out : Part → Bool) (p : Part) (x : List ℕ) (top : ℕ) → KeptDown F l out (p.end - p.n) p x top →
     (e : Each) (lp : Loop) → ((q : Part) → Within F l q → (q.n ≡ 0 → ⊥) → out q ≡ true → Quiet F q e lp) → KeptOf F l e lp p x top
@@ -264,35 +246,20 @@ module _ (F : List ℕ) (l : Layout) (lp : Loop) (lo : ℕ) (x : List ℕ) (last
   kept_row e zero z c = absurd (z refl)
   kept_row e (suc u) z c = rw sub-one c.3
 
-  -- there are no more of them than records
-  pub kept_few : (e : Each) (n : ℕ) → Kept F l e lp lo x n lo last → n ≤ last - lo
-  unfolding Kept
-  kept_few e zero c = omega arith
-  kept_few e (suc u) c = omega (arith, c.0.up, c.1, c.2)
-
   pub kept_some : (e : Each) (n : ℕ) → (n ≡ 0 → ⊥) → Kept F l e lp lo x n lo last → lo < get_or x (n - 1) 0
   unfolding Kept
   kept_some e zero z c = absurd (z refl)
   kept_some e (suc u) z c = rw sub-one (omega (arith, c.0.up, c.1))
 
-  pub kept_pop : (n : ℕ) → (n ≡ 0 → ⊥) → Kept F l Element lp lo x n lo last → kind_at F l (upto lo (get_or x (n - 1) 0)) < 100 → Kept F l Element lp lo x (n - 1) lo last
+  pub kept_pop : (n : ℕ) → (n ≡ 0 → ⊥) → Kept F l Element lp lo x n lo last → (row_in (rows_of F l) (get_or x (n - 1) 0 - 1)).kind < 100 → Kept F l Element lp lo x (n - 1) lo last
   unfolding Kept
   kept_pop zero z c h = absurd (z refl)
   kept_pop (suc u) z c h =
-      let n = unlabelled F l (upto lo (get_or x u 0)) c.3 (rw sub-one at h) in
+      let p = upto lo (get_or x u 0) in
+      let z : p.n ≡ 0 → ⊥ = λ e. omega (arith, c.0.up, c.1) in
+      let n = unlabelled F l p c.3 (rw (← last_kind F l p z refl) (let e : suc u - 1 ≡ u = omega arith in rw e at h)) in
       let t = tree_idle F l lo (get_or x u 0) c.3 c.0.up c.1 Element lp (λ f d. rw (n, none_before c.0) after_done) n in
       rw sub-one (kept_skip F l Element lp lo x u lo _ last (idle_then c.0 t) c.4)
-
--- the record behind a part
-pub row_behind : (F : List ℕ) (l : Layout) (p : Part) → Within F l p → p.end < l.count → HasRow F l p.end
-row_behind F l p w h = let k : p.end < (layout_of F).count = rw w.layout at h in rw w.layout (k, omega (arith, w.sound.areas))
-
-pub unlabelled_more : (F : List ℕ) (l : Layout) (lo i : ℕ) → Unlabelled F l lo i → (row_in (rows_of F l) i).kind < 100 → Unlabelled F l lo (i + 1)
-unlabelled_more F l lo i u h = record { each = λ k a z. by_test k a z (eqb k i) refl }
-  where
-    by_test : (k : ℕ) → lo ≤ k → k < i + 1 → (t : Bool) → eqb k i ≡ t → (row_in (rows_of F l) k).kind < 100
-    by_test k a z true t = let d = eqb-true k i t in rw d h
-    by_test k a z false t = u.each k a (omega (arith, eqb-false k i t))
 
 -- records without a label, from a row's start on
 module _ (F : List ℕ) (l : Layout) (lp : Loop) (lo : ℕ) (e : Each) (s : Silent e lp) where

@@ -2,12 +2,12 @@
 use Prim.Native.Nat.{ℕ, zero, suc, ◌+◌, ◌-◌, ◌≤◌, ◌<◌, min}
 use mathlib.Core.Path.{◌≡◌, refl, sym, ap, ◌∙◌}
 use mathlib.Core.List.{List}
-use mathlib.Core.Bool.{Bool, true, false, cond, not, ◌&&◌}
+use mathlib.Core.Bool.{Bool, true, false, cond, not}
 use mathlib.Core.Option.{none}
 use native.Mathlib.Omega.{arith}
 use native.Mathlib.Numerals.{sub-one}
-use lib.Dec.{ltb, leb, eqb}
-use borrow.Author.Tests.{eqb-true, eqb-false, ne_eqb, ltb-true, lt-ltb, leb-true, le-leb, lt-leb}
+use lib.Dec.{ltb, eqb}
+use borrow.Author.Tests.{eqb-true, eqb-false, ne_eqb, ltb-true, le-leb, lt-leb}
 use Rattle.hir.specs.Hir.{Rec}
 use Rattle.hir.specs.Tree.{Forest, more}
 use Rattle.hir.specs.declared.Record.TheVariants as kind
@@ -21,7 +21,6 @@ use Rattle.script_records.specs.Parts.{last_tree}
 use Rattle.script_records.proofs.Trees.{span_le, span_pos}
 use Rattle.decode.specs.Decode.{record_of, plain_of, statement_kinds, expr_kinds}
 use Rattle.script.specs.Resolve.{resolved}
-use Rattle.script.proofs.WrittenRows.{first, second}
 use Rattle.lowering.specs.Builder.{State, Step, ◌>>=◌, ◌>>◌, pure, done, when, stack_size, truncate_stack}
 use Rattle.lowering.specs.Meaning.{Loop, Meaning, kid, list, hoisted, element}
 use Rattle.lowering.specs.Meaning as meaning
@@ -30,15 +29,17 @@ use Rattle.codegen_state.specs.View.{Waiting, Held, holds, stopped, carry, after
 use Rattle.codegen_state.proofs.Steps.{after_then, after_done}
 use Rattle.tree.specs.Trees.{rows_in, rec_of, node_of, kind_at, meant}
 use Rattle.tree.specs.Within.{Within, IsNode, meanings_at, kid_at, list_at}
-use Rattle.tree.proofs.Nodes.{is_node, size_least, span_is, trees_none, trees_more}
+use Rattle.tree.proofs.Nodes.{is_node, span_is, trees_none, trees_more}
 use Rattle.tree.proofs.ByKind.{kind_none, kind_made, last_kind, kids_none, kids_made, no_label}
 use Rattle.tree.proofs.Counting.{element_is}
 use Rattle.tree.proofs.Meanings.{kid_zero, list_zero}
 use Rattle.rows.specs.declared.Each.{Each}
 use Rattle.rows.specs.declared.Each.TheVariants.{Expr, Discarded, Field, Statement, Hoisted, Unhoisted, Conditional, Element}
 use Rattle.rows.specs.Rows.{one_of}
-use Rattle.rows.specs.Passed.{bit, passes, passes_at, passed}
-use Rattle.rows.specs.Kept.{Quiet, of_kinds}
+use Rattle.std.specs.Prelude.{Option, Some, None, option_map, unwrap_or}
+use Rattle.std.specs.Bool.{then_some}
+use Rattle.rows.specs.Passed.{passes, passes_at, passed}
+use Rattle.rows.specs.Kept.{Quiet, of_passed}
 
 pub never : {A : Type 0} → false ≡ true → A
 never h = absurd (omega (arith, ap (λ (x : Bool). cond {A = ℕ} x 1 0) h))
@@ -155,25 +156,20 @@ module _ (F : List ℕ) (l : Layout) (p : Part) (w : Within F l p) where
   continue_still k lp b = rw (kid_zero F l p node_is, continue_root F l p k, b) after_done
 
   -- rows in which trees of some kinds generate nothing
-  among : (low high : ℕ) → of_kinds F l low high p ≡ true → (low ≤ kind_at F l p) × (kind_at F l p ≤ high)
-  among low high h = (leb-true low (kind_at F l p) (first (leb low (kind_at F l p)) _ h), leb-true (kind_at F l p) high (second (leb low (kind_at F l p)) _ h))
-
-  void_is : of_kinds F l 48 48 p ≡ true → kind_at F l p ≡ 48
-  void_is h = omega (arith, among 48 48 h)
-
-  pub expr_out : of_kinds F l 48 48 p ≡ true → (lp : Loop) → Quiet F p Expr lp
+  pub expr_out : eqb (kind_at F l p) 48 ≡ true → (lp : Loop) → Quiet F p Expr lp
   unfolding resolved
-  expr_out h lp = (λ f d s c. rw (kid_zero F l p node_is, void_root F l p (void_is h)) after_done, unlabelled (omega (arith, void_is h)))
+  expr_out h lp =
+      let k = eqb-true (kind_at F l p) 48 h in
+      (λ f d s c. rw (kid_zero F l p node_is, void_root F l p k) after_done, unlabelled (omega (arith, k)))
 
-  pub discarded_out : of_kinds F l 48 48 p ≡ true → (lp : Loop) → Quiet F p Discarded lp
+  pub discarded_out : eqb (kind_at F l p) 48 ≡ true → (lp : Loop) → Quiet F p Discarded lp
   unfolding resolved
-  discarded_out h lp = (λ f d s c. rw (kid_zero F l p node_is, void_root F l p (void_is h)) (framed done after_done), unlabelled (omega (arith, void_is h)))
+  discarded_out h lp =
+      let k = eqb-true (kind_at F l p) 48 h in
+      (λ f d s c. rw (kid_zero F l p node_is, void_root F l p k) (framed done after_done), unlabelled (omega (arith, k)))
 
-  pub field_out : of_kinds F l 1 0 p ≡ true → (lp : Loop) → Quiet F p Field lp
-  field_out h lp = absurd (omega (arith, among 1 0 h))
-
-  pub conditional_out : of_kinds F l 0 99 p ≡ true → (lp : Loop) → Quiet F p Conditional lp
-  conditional_out h lp = let n = unlabelled (omega (arith, among 0 99 h)) in (λ f d s c. rw n after_done, n)
+  pub conditional_out : ltb (kind_at F l p) 100 ≡ true → (lp : Loop) → Quiet F p Conditional lp
+  conditional_out h lp = let n = unlabelled (ltb-true (kind_at F l p) 100 h) in (λ f d s c. rw n after_done, n)
 
 -- the record before a tree's own is that of its last child
 module _ (F : List ℕ) (l : Layout) (p : Part) (w : Within F l p) where
@@ -228,49 +224,50 @@ record Way (rs : List Row) (lo e : ℕ) (breaks continues : Bool) : Type 0 where
   steps : ℕ
   holds : passed steps rs lo e breaks continues ≡ true
 
+-- a step of the way down
+record Down (rs : List Row) (lo e : ℕ) (breaks continues : Bool) : Type 0 where
+  passes : ℕ
+  is : passes_at rs e breaks continues ≡ Some passes
+  below : Way rs lo (e - passes) breaks continues
+
 module _ {rs : List Row} {lo e : ℕ} {breaks continues : Bool} where
-  onward_in : (k : ℕ) → passed k rs lo e breaks continues ≡ true → lo < e → (0 < passes_at rs e breaks continues) × Way rs lo (e - passes_at rs e breaks continues) breaks continues
+  onward_in : (k : ℕ) → passed k rs lo e breaks continues ≡ true → lo < e → Down rs lo e breaks continues
   unfolding passed
   onward_in zero h u = never h
-  onward_in (suc k) h u =
-      let x : (ltb 0 (passes_at rs e breaks continues) && passed k rs lo (e - passes_at rs e breaks continues) breaks continues) ≡ true = rw (lt-leb e lo u) at h in
-      (ltb-true 0 _ (first (ltb 0 (passes_at rs e breaks continues)) _ x), record { steps = k; holds = second (ltb 0 (passes_at rs e breaks continues)) _ x })
+  onward_in (suc k) h u = by (passes_at rs e breaks continues) refl (rw (lt-leb e lo u) at h)
+    where
+      by : (o : Option ℕ) → passes_at rs e breaks continues ≡ o → unwrap_or (option_map (λ n. passed k rs lo (e - n) breaks continues) o) false ≡ true → Down rs lo e breaks continues
+      by None q x = never x
+      by (Some n) q x = record { passes = n; is = q; below = record { steps = k; holds = x } }
 
-  onward : Way rs lo e breaks continues → lo < e → (0 < passes_at rs e breaks continues) × Way rs lo (e - passes_at rs e breaks continues) breaks continues
+  onward : Way rs lo e breaks continues → lo < e → Down rs lo e breaks continues
   onward t u = onward_in t.steps t.holds u
 
-bit_some : (b : Bool) → 0 < bit b → (b ≡ true) × (bit b ≡ 1)
-bit_some true h = (refl, refl)
-bit_some false h = absurd (omega arith)
-
-size_some : (b : Bool) (size : ℕ) → 0 < cond b size 0 → (b ≡ true) × (cond b size 0 ≡ size)
-size_some true size h = (refl, refl)
-size_some false size h = absurd (omega arith)
+some_passed : (b : Bool) (size : ℕ) {n : ℕ} → then_some b size ≡ Some n → (b ≡ true) × (n ≡ size)
+some_passed true size h = (refl, cc)
+some_passed false size h = cc
 
 -- the kinds that are passed
-module _ (k size under : ℕ) (breaks continues : Bool) (h : 0 < passes k size under breaks continues) where
-  abbrev n : ℕ
-  n = passes k size under breaks continues
-
+module _ (k size under : ℕ) (breaks continues : Bool) {n : ℕ} (h : passes k size under breaks continues ≡ Some n) where
   passes_cases : {P : Type 0} → (k ≡ 3 → under ≡ 48 → n ≡ size → P) → (k ≡ 8 → breaks ≡ true → n ≡ 1 → P) → (k ≡ 9 → continues ≡ true → n ≡ 1 → P) → (k ≡ 4 → under ≡ 97 → n ≡ 1 → P) → (k ≡ 97 → n ≡ 1 → P) → P
   passes_cases {P} void break continue block list' = by (eqb k 3) refl (eqb k 8) refl (eqb k 9) refl (eqb k 4) refl
     where
       by : (a : Bool) → eqb k 3 ≡ a → (b : Bool) → eqb k 8 ≡ b → (c : Bool) → eqb k 9 ≡ c → (d : Bool) → eqb k 4 ≡ d → P
-      by true x b y c z d u = let t = size_some (eqb under 48) size (rw x at h) in void (eqb-true k 3 x) (eqb-true under 48 t.0) (rw x t.1)
-      by false x true y c z d u = let t = bit_some breaks (rw (x, y) at h) in break (eqb-true k 8 y) t.0 (rw (x, y) t.1)
-      by false x false y true z d u = let t = bit_some continues (rw (x, y, z) at h) in continue (eqb-true k 9 z) t.0 (rw (x, y, z) t.1)
-      by false x false y false z true u = let t = bit_some (eqb under 97) (rw (x, y, z, u) at h) in block (eqb-true k 4 u) (eqb-true under 97 t.0) (rw (x, y, z, u) t.1)
-      by false x false y false z false u = let t = bit_some (eqb k 97) (rw (x, y, z, u) at h) in list' (eqb-true k 97 t.0) (rw (x, y, z, u) t.1)
+      by true x b y c z d u = let t = some_passed (eqb under 48) size (rw x at h) in void (eqb-true k 3 x) (eqb-true under 48 t.0) t.1
+      by false x true y c z d u = let t = some_passed breaks 1 (rw (x, y) at h) in break (eqb-true k 8 y) t.0 t.1
+      by false x false y true z d u = let t = some_passed continues 1 (rw (x, y, z) at h) in continue (eqb-true k 9 z) t.0 t.1
+      by false x false y false z true u = let t = some_passed (eqb under 97) 1 (rw (x, y, z, u) at h) in block (eqb-true k 4 u) (eqb-true under 97 t.0) t.1
+      by false x false y false z false u = let t = some_passed (eqb k 97) 1 (rw (x, y, z, u) at h) in list' (eqb-true k 97 t.0) t.1
 
-module _ (rs : List Row) (e : ℕ) (breaks continues : Bool) (h : 0 < passes_at rs e breaks continues) where
+module _ (rs : List Row) (e : ℕ) (breaks continues : Bool) {n : ℕ} (h : passes_at rs e breaks continues ≡ Some n) where
   abbrev at : ℕ
   at = (row_in rs (e - 1)).kind
 
   abbrev under : ℕ
   under = (row_in rs (e - 2)).kind
 
-  cases_at : {P : Type 0} → (at ≡ 3 → under ≡ 48 → passes_at rs e breaks continues ≡ (row_in rs (e - 1)).size → P) → (at ≡ 8 → breaks ≡ true → passes_at rs e breaks continues ≡ 1 → P) →
-      (at ≡ 9 → continues ≡ true → passes_at rs e breaks continues ≡ 1 → P) → (at ≡ 4 → under ≡ 97 → passes_at rs e breaks continues ≡ 1 → P) → (at ≡ 97 → passes_at rs e breaks continues ≡ 1 → P) → P
+  cases_at : {P : Type 0} → (at ≡ 3 → under ≡ 48 → n ≡ (row_in rs (e - 1)).size → P) → (at ≡ 8 → breaks ≡ true → n ≡ 1 → P) →
+      (at ≡ 9 → continues ≡ true → n ≡ 1 → P) → (at ≡ 4 → under ≡ 97 → n ≡ 1 → P) → (at ≡ 97 → n ≡ 1 → P) → P
   unfolding passes_at
   cases_at = passes_cases at (row_in rs (e - 1)).size under breaks continues h
 
@@ -336,8 +333,8 @@ module _ (F : List ℕ) (l : Layout) {breaks continues : Bool} (lp : Loop) (no-b
             let o = onward t (omega (arith, e, s, low, kids_within.inside)) in
             let g = node_is F l kids kids_within in
             let a : (row_in (rows_of F l) (p.end - 1 - 1)).kind ≡ 97 = rw e2 k in
-            let d : To (p.end - 1 - 1) = cases_at _ _ _ _ o.0 (λ j u m. absurd (omega (arith, j, a))) (λ j u m. absurd (omega (arith, j, a))) (λ j u m. absurd (omega (arith, j, a)))
-            (λ j u m. absurd (omega (arith, j, a))) (λ j m. rw m at o.1) in
+            let d : To (p.end - 1 - 1) = cases_at _ _ _ _ o.is (λ j u m. absurd (omega (arith, j, a))) (λ j u m. absurd (omega (arith, j, a))) (λ j u m. absurd (omega (arith, j, a)))
+            (λ j u m. absurd (omega (arith, j, a))) (λ j m. rw m at o.below) in
             (shorter (node_of F l kids).children (few_below _ _ _ _ g.apart (few_kids _ _ _ _ (node_is F l p w).apart z few)) g.kids_within
             (rw (tree_start F l kids kids_within y) (up_to _ _ _ _ low s (start_inside F l kids kids_within)))
             (rw (below_end F l kids kids_within y, e) d)).0
@@ -352,12 +349,12 @@ module _ (F : List ℕ) (l : Layout) {breaks continues : Bool} (lp : Loop) (no-b
         let s = tree_start F l p w z in
         let o = onward t (omega (arith, below_end F l p w z, s, low, w.inside)) in
         let q : (k : ℕ) → (row_in (rows_of F l) (p.end - 1)).kind ≡ k → kind_at F l p ≡ k = λ k e. sym (last_kind F l p z refl) ∙ e in
-        cases_at _ _ _ _ o.0
-        (λ k u m. (void_still F l p w (q 3 k) (void_below F l p w u) lp, rw ((node_is F l p w).end, span_is F l p w z refl) (rw m at o.1)))
-        (λ k b m. (break_still F l p w (q 8 k) lp (no-break b), through (rw m at o.1)))
-        (λ k b m. (continue_still F l p w (q 9 k) lp (no-continue b), through (rw m at o.1)))
-        (λ k u m. let r = rw m at o.1 in (block_still F l p w (q 4 k) lp (in_block u r), through r))
-        (λ k m. (list_still F l p w (q 97 k) lp, through (rw m at o.1)))
+        cases_at _ _ _ _ o.is
+        (λ k u m. (void_still F l p w (q 3 k) (void_below F l p w u) lp, rw ((node_is F l p w).end, span_is F l p w (omega arith) refl) (rw m at o.below)))
+        (λ k b m. (break_still F l p w (q 8 k) lp (no-break b), through (rw m at o.below)))
+        (λ k b m. (continue_still F l p w (q 9 k) lp (no-continue b), through (rw m at o.below)))
+        (λ k u m. let r = rw m at o.below in (block_still F l p w (q 4 k) lp (in_block u r), through r))
+        (λ k m. (list_still F l p w (q 97 k) lp, through (rw m at o.below)))
 
   abbrev Passed : ℕ → Type 0
   Passed n = (p : Part) → p.n ≤ n → Within F l p → lo ≤ p.end - p.n → To p.end → Those p × To (p.end - p.n)
@@ -388,34 +385,35 @@ module _ (F : List ℕ) (l : Layout) (p : Part) (w : Within F l p) (z : p.n ≡ 
   passed_label : element (kid_at F p 0).rec ≡ meaning.statement
   passed_label =
       let o = onward_in k h (omega (arith, below_end F l p w z, tree_start F l p w z, w.inside)) in
-      unlabelled F l p w (rw (← last_kind F l p z refl) (low_at _ _ _ _ o.0))
+      unlabelled F l p w (rw (← last_kind F l p z refl) (low_at _ _ _ _ o.is))
 
   pub passed_out : (e : Each) → of_statements e ≡ true → (lp : Loop) → (breaks ≡ true → lp.break_label ≡ none) → (continues ≡ true → lp.continue_label ≡ none) → Quiet F p e lp
   passed_out e s lp no-break no-continue = (λ f d t c. one_quiet lp f d t c _ _ (passed_still lp no-break no-continue) passed_label e s, passed_label)
 
+-- what `is_none` says
+pub not_some : {b x : Bool} → x ≡ not b → b ≡ not x
+not_some {b = true} h = rw h
+not_some {b = false} h = rw h
+
 -- one step of the way
 module _ (rs : List Row) (e : ℕ) (breaks continues : Bool) {row : Row} (is : row ≡ row_in rs (e - 1)) where
-  pub at_void : row.kind ≡ 3 → {b : Bool} → b ≡ eqb (row_in rs (e - 2)).kind 48 → b ≡ true → row.size ≡ passes_at rs e breaks continues
+  pub at_expr : row.kind ≡ 3 → {b : Bool} → b ≡ eqb (row_in rs (e - 2)).kind 48 → {o : Option ℕ} → o ≡ then_some b row.size → o ≡ passes_at rs e breaks continues
   unfolding passes_at
-  at_void k u t = rw (← is, k, ← u, t)
+  at_expr k u q = rw (← is, k, ← u) q
 
-  pub at_expr : row.kind ≡ 3 → {b : Bool} → b ≡ eqb (row_in rs (e - 2)).kind 48 → b ≡ false → 0 ≡ passes_at rs e breaks continues
-  unfolding passes_at
-  at_expr k u t = rw (← is, k, ← u, t)
-
-  pub at_break : row.kind ≡ 8 → {n : ℕ} → n ≡ bit breaks → n ≡ passes_at rs e breaks continues
+  pub at_break : row.kind ≡ 8 → {o : Option ℕ} → o ≡ then_some breaks 1 → o ≡ passes_at rs e breaks continues
   unfolding passes_at
   at_break k q = rw (← is, k) q
 
-  pub at_continue : row.kind ≡ 9 → {n : ℕ} → n ≡ bit continues → n ≡ passes_at rs e breaks continues
+  pub at_continue : row.kind ≡ 9 → {o : Option ℕ} → o ≡ then_some continues 1 → o ≡ passes_at rs e breaks continues
   unfolding passes_at
   at_continue k q = rw (← is, k) q
 
-  pub at_block : row.kind ≡ 4 → {b : Bool} → b ≡ eqb (row_in rs (e - 2)).kind 97 → {n : ℕ} → n ≡ bit b → n ≡ passes_at rs e breaks continues
+  pub at_block : row.kind ≡ 4 → {b : Bool} → b ≡ eqb (row_in rs (e - 2)).kind 97 → {o : Option ℕ} → o ≡ then_some b 1 → o ≡ passes_at rs e breaks continues
   unfolding passes_at
   at_block k u q = rw (← is, k, ← u) q
 
-  pub at_list : (row.kind ≡ 3 → ⊥) → (row.kind ≡ 8 → ⊥) → (row.kind ≡ 9 → ⊥) → (row.kind ≡ 4 → ⊥) → {n : ℕ} → n ≡ bit (eqb row.kind 97) → n ≡ passes_at rs e breaks continues
+  pub at_list : (row.kind ≡ 3 → ⊥) → (row.kind ≡ 8 → ⊥) → (row.kind ≡ 9 → ⊥) → (row.kind ≡ 4 → ⊥) → {o : Option ℕ} → o ≡ then_some (eqb row.kind 97) 1 → o ≡ passes_at rs e breaks continues
   unfolding passes_at
   at_list a b c d q = rw (← is, ne_eqb row.kind 3 a, ne_eqb row.kind 8 b, ne_eqb row.kind 9 c, ne_eqb row.kind 4 d) q
 
@@ -425,48 +423,54 @@ module _ (rs : List Row) (lo e : ℕ) (breaks continues : Bool) where
   unfolding passed
   passed_none k h = rw h
 
-  pub passed_end : (k : ℕ) → (k ≡ 0 → ⊥) → e ≤ lo → true ≡ passed k rs lo e breaks continues
-  unfolding passed
-  passed_end zero z h = absurd (z refl)
-  passed_end (suc k) z h = rw (le-leb e lo h)
-
-  module _ (k : ℕ) (z : k ≡ 0 → ⊥) (h : lo < e) {n : ℕ} (q : n ≡ passes_at rs e breaks continues) where
-    passed_step : passed k rs lo e breaks continues ≡ (ltb 0 n && passed (k - 1) rs lo (e - n) breaks continues)
+  module _ (k : ℕ) (z : 0 < k) where
+    pub passed_end : e ≤ lo → true ≡ passed k rs lo e breaks continues
     unfolding passed
-    passed_step = by k z
+    passed_end h = by k z
       where
-        by : (k : ℕ) → (k ≡ 0 → ⊥) → passed k rs lo e breaks continues ≡ (ltb 0 n && passed (k - 1) rs lo (e - n) breaks continues)
-        by zero z = absurd (z refl)
-        by (suc k) z = rw (lt-leb e lo h, ← q, sub-one)
+        by : (k : ℕ) → 0 < k → true ≡ passed k rs lo e breaks continues
+        by zero z = absurd (omega arith)
+        by (suc k) z = rw (le-leb e lo h)
 
-    pub passed_stop : n ≡ 0 → false ≡ passed k rs lo e breaks continues
-    passed_stop x = rw (passed_step, x)
+    module _ (h : lo < e) {o : Option ℕ} (q : o ≡ passes_at rs e breaks continues) where
+      passed_step : passed k rs lo e breaks continues ≡ unwrap_or (option_map (λ n. passed (k - 1) rs lo (e - n) breaks continues) o) false
+      unfolding passed
+      passed_step = by k z
+        where
+          by : (k : ℕ) → 0 < k → passed k rs lo e breaks continues ≡ unwrap_or (option_map (λ n. passed (k - 1) rs lo (e - n) breaks continues) o) false
+          by zero z = absurd (omega arith)
+          by (suc k) z = rw (lt-leb e lo h, ← q, sub-one)
 
-    pub passed_on : (n ≡ 0 → ⊥) → passed k rs lo e breaks continues ≡ passed (k - 1) rs lo (e - n) breaks continues
-    passed_on x = rw (passed_step, lt-ltb 0 n (omega arith))
+      pub passed_stop : o ≡ None → false ≡ passed k rs lo e breaks continues
+      passed_stop x = rw (passed_step, x)
+
+      pub passed_on : {n : ℕ} → o ≡ Some n → passed k rs lo e breaks continues ≡ passed (k - 1) rs lo (e - n) breaks continues
+      passed_on x = rw (passed_step, x)
 
 -- a statement that is an expression: a Void, or not
-module _ (F : List ℕ) (l : Layout) (p : Part) (w : Within F l p) (z : p.n ≡ 0 → ⊥) (k : kind_at F l p ≡ 3) (breaks continues : Bool) where
+module _ (F : List ℕ) (l : Layout) (p : Part) (w : Within F l p) (k : kind_at F l p ≡ 3) (breaks continues : Bool) where
+  pub expr_there : p.n ≡ 0 → ⊥
+  expr_there h = omega (arith, kind_none F l p h ∙ k)
+
   abbrev rs : List Row
   rs = rows_of F l
 
   expr_at : (row_in rs (p.end - 1)).kind ≡ 3
-  expr_at = last_kind F l p z refl ∙ k
+  expr_at = last_kind F l p expr_there refl ∙ k
 
   abbrev tree_at : ℕ
   tree_at = (node_of F l p).before.end
 
   below_it : tree_at < p.end
-  below_it = omega (arith, below_end F l p w z, tree_start F l p w z, w.inside)
+  below_it = let z = expr_there in omega (arith, z, below_end F l p w expr_there, tree_start F l p w expr_there, w.inside)
 
   by_test : (b : Bool) → b ≡ eqb (row_in rs (p.end - 2)).kind 48 → b ≡ passed 128 rs tree_at p.end breaks continues
   by_test true u =
-      let n = at_void rs p.end breaks continues {row = row_in rs (p.end - 1)} refl expr_at u refl in
-      let e : p.end - (row_in rs (p.end - 1)).size ≡ tree_at = rw ((node_is F l p w).end, span_is F l p w z refl) in
-      passed_end rs tree_at (p.end - (row_in rs (p.end - 1)).size) breaks continues 127 (λ x. omega (arith, x)) (omega (arith, e))
-      ∙ sym (passed_on rs tree_at p.end breaks continues 128 (λ x. omega (arith, x)) below_it n (λ x. omega (arith, x, size_least F l p w z refl)))
+      let n = at_expr rs p.end breaks continues {row = row_in rs (p.end - 1)} refl expr_at u refl in
+      let e : p.end - (row_in rs (p.end - 1)).size ≡ tree_at = rw ((node_is F l p w).end, span_is F l p w (omega (arith, expr_there)) refl) in
+      passed_end rs tree_at (p.end - (row_in rs (p.end - 1)).size) breaks continues 127 (omega arith) (omega (arith, e)) ∙ sym (passed_on rs tree_at p.end breaks continues 128 (omega arith) below_it n refl)
   by_test false u =
-      passed_stop rs tree_at p.end breaks continues 128 (λ x. omega (arith, x)) below_it (at_expr rs p.end breaks continues {row = row_in rs (p.end - 1)} refl expr_at u refl) refl
+      passed_stop rs tree_at p.end breaks continues 128 (omega arith) below_it (at_expr rs p.end breaks continues {row = row_in rs (p.end - 1)} refl expr_at u refl) refl
 
-  pub expr_passed : {start : ℕ} → start ≡ tree_at → {b : Bool} → b ≡ eqb (row_in rs (p.end - 2)).kind 48 → b ≡ passed 128 rs start p.end breaks continues
-  expr_passed s {b} u = rw s (by_test b u)
+  pub expr_passed : {b : Bool} → b ≡ eqb (row_in rs (p.end - 2)).kind 48 → b ≡ of_passed F l 128 breaks continues p
+  expr_passed {b} u = by_test b u

@@ -7,6 +7,10 @@ use Rattle.lowering.specs.Builder.{Step}
 use Rattle.lowering.specs.Meaning.{Loop, hoisted}
 use Rattle.lowering.specs.Statement.{gen_statements, gen_block}
 use Rattle.codegen_state.specs.View.{Held, after}
+use Rattle.std.specs.Option.{is_none}
+use Rattle.tree.specs.declared.Trees.{Trees}
+use Rattle.tree.specs.Handle.{file_of}
+use Rattle.rows.specs.declared.Loop as code
 use Rattle.tree.specs.Within.{Within, meanings_at, kid_at, list_at}
 
 -- two steps that do the same from everywhere
@@ -29,3 +33,8 @@ pub record Innermost (F : List ℕ) (l : Layout) (lp : Loop) (p r : Part) : Type
   pub within : Within F l r
   pub fewer : r.n ≤ p.n
   pub same : Same (gen_block lp (meanings_at F p)) (gen_block lp (meanings_at F r))
+
+-- of the statements of a row, the last of t alone generates anything
+pub record IsOnly (lp : code.Loop) (row t : Trees) : Type 0 where
+  pub script : t.script ≡ row.script
+  pub only : Only (file_of row) row.script.layout (is_none lp.exit) (is_none lp.next) row.part t.part

@@ -1,22 +1,19 @@
 -- Where the trees of a row end that are to be generated: all but some that generate nothing.
-use Rattle.std.specs.Prelude.{ℕ, zero, suc, ◌+◌, ◌-◌, ◌≤◌, ◌<◌, ◌≡◌, Bool, true, false, ◌&&◌, List, leb, get_or}
-use Rattle.std.proofs.Math.Option.{Option, none, some}
+use Rattle.std.specs.Prelude.{ℕ, zero, suc, ◌+◌, ◌-◌, ◌≤◌, ◌<◌, ◌≡◌, Bool, true, List, get_or}
 use Rattle.script_records.specs.declared.layout.Layout.{Layout}
 use Rattle.script_records.specs.declared.part.Part.{Part}
 use Rattle.script_records.specs.Layout.{rows_of, row_in, span_at}
 use Rattle.lowering.specs.Meaning.{Loop, element}
 use Rattle.lowering.specs.Meaning as meaning
 use Rattle.codegen_state.specs.View.{Held, after}
-use Rattle.tree.specs.Trees.{rows_in, node_of, kind_at}
+use Rattle.tree.specs.declared.Trees.{Trees}
+use Rattle.tree.specs.Trees.{rows_in, node_of}
+use Rattle.tree.specs.Handle.{file_of}
 use Rattle.tree.specs.Within.{Within, meanings_at, kid_at, list_at}
 use Rattle.builder.specs.Labels.{labels_of_forest}
 use Rattle.rows.specs.declared.Each.{Each}
 use Rattle.rows.specs.Rows.{one_of, each_of, cases_of}
 use Rattle.rows.specs.Passed.{passed}
-
-abbrev pub is_nowhere : Option ℕ → Bool
-is_nowhere none = true
-is_nowhere (some label) = false
 
 -- a row's step for its last tree generates nothing, and that has no label
 abbrev pub Quiet : List ℕ → Part → Each → Loop → Type 0
@@ -46,17 +43,9 @@ Kept F l e lp lo x (suc u) q last =
 abbrev pub KeptOf : List ℕ → Layout → Each → Loop → Part → List ℕ → (top : ℕ) → Type 0
 KeptOf F l e lp p x top = Kept F l e lp (p.end - p.n) x top (p.end - p.n) p.end
 
--- trees of the kinds from low to high; statements whose records are passed in fewer than k steps
-abbrev pub of_kinds : List ℕ → Layout → (low high : ℕ) → Part → Bool
-of_kinds F l low high q = leb low (kind_at F l q) && leb (kind_at F l q) high
-
+-- statements whose records are passed in fewer than k steps
 abbrev pub of_passed : List ℕ → Layout → (k : ℕ) → (breaks continues : Bool) → Part → Bool
 of_passed F l k breaks continues q = passed k (rows_of F l) (node_of F l q).before.end q.end breaks continues
-
--- 0 for a tree that is left out, 1 for one that is kept
-abbrev pub keeps : Bool → ℕ
-keeps true = 0
-keeps false = 1
 
 -- none of the records from lo up to q is a Case's or a Default's
 pub record Unlabelled (F : List ℕ) (l : Layout) (lo q : ℕ) : Type 0 where
@@ -67,3 +56,8 @@ abbrev pub KeptDown : List ℕ → Layout → (out : Part → Bool) → (stop : 
 KeptDown F l out stop p x top =
     (e : Each) (lp : Loop) → ((q : Part) → Within F l q → (q.n ≡ 0 → ⊥) → out q ≡ true → Quiet F q e lp) →
     (q : ℕ) × (q ≤ stop) × (p.end - p.n ≤ q) × Within F l (upto (p.end - p.n) q) × Kept F l e lp (p.end - p.n) x top q p.end
+
+-- the same for every test that a closure answers of a row's trees
+abbrev pub KeptBy : (answers : Trees → Bool → Type 0) → Trees → (stop : ℕ) → List ℕ → (top : ℕ) → Type 0
+KeptBy answers row stop x top =
+    (out : Part → Bool) → ((t : Trees) (r : Bool) → t.script ≡ row.script → answers t r → r ≡ out t.part) → KeptDown (file_of row) row.script.layout out stop row.part x top

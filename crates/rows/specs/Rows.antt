@@ -1,8 +1,10 @@
 -- What is done with each tree of a row, in one form for all rows.
 use Rattle.std.specs.Prelude.{ℕ, ◌+◌, Bool, true, false, not, ◌||◌, List, ltb}
+use Rattle.std.specs.Prelude as std
 use Rattle.std.proofs.Math.Option.{Option, none, some}
 use Rattle.hir.specs.Tree.{Forest, more}
 use Rattle.pcode.specs.Pcode.{Value}
+use Rattle.pcode.specs.declared.Label.{Label}
 use Rattle.pcode.specs.declared.Op.TheVariants.{StrictEquals}
 use Rattle.lowering.specs.Builder.{Step, ◌>>◌, done, when, action, push, push_string, mark_label, mark_default}
 use Rattle.lowering.specs.Access.{store_register}
@@ -12,15 +14,13 @@ use Rattle.lowering.specs.Statement.{SwitchElement, branch, expr, discarded, has
 use Rattle.builder.specs.Labels.{labels_of_forest}
 use Rattle.rows.specs.declared.Each.{Each}
 use Rattle.rows.specs.declared.Each.TheVariants.{Expr, Discarded, Field, Statement, Hoisted, Unhoisted, Conditional, Element}
-use Rattle.rows.specs.declared.Target.{Target}
-use Rattle.rows.specs.declared.Target.TheVariants.{To, Nowhere}
 use Rattle.rows.specs.declared.Loop as code
 
 -- the labels that Break and Continue jump to
 
-abbrev pub label_of : Target → Option ℕ
-label_of (To l) = some l.0
-label_of Nowhere = none
+abbrev pub label_of : std.Option Label → Option ℕ
+label_of (std.Some l) = some l.0
+label_of std.None = none
 
 abbrev pub loop_of : code.Loop → Loop
 loop_of lp = record { break_label = label_of lp.exit; continue_label = label_of lp.next }

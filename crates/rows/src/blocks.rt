@@ -1,78 +1,55 @@
 // A Block in a Block in a Block: if in each of them one statement alone may generate anything, the innermost one is generated, without a call for each.
-ghost use Rattle.std.specs.Prelude.{◌≡◌};
+ghost use Rattle.std.specs.Prelude.{◌≡◌, IfSome};
 ghost use Rattle.tree.specs.Trees.{kind_at};
-ghost use Rattle.tree.specs.Within.{Within};
+ghost use Rattle.tree.specs.Handle.{file_of};
 ghost use Rattle.rows.specs.Rows.{loop_of};
-ghost use Rattle.rows.specs.Innermost.{Only, Innermost};
+ghost use Rattle.rows.specs.Innermost.{Innermost, IsOnly};
 
 use crate::Loop;
-use crate::ends::is_nowhere;
 use crate::quiet::is_passed;
-use script_records::layout::Layout;
-use script_records::part::Part;
-use tree::{children_of, kind_at, list_at, rest_of};
+use script_records::kind::Kind;
+use tree::Trees;
 
-fn no_part() -> Part
-    ensures { result.n ≡ 0 }
+// The trees up to the only one that may generate anything, if there is one alone and the row is short.
+fn only_tree<'a>(row: &Trees<'a>, lp: Loop) -> Option<Trees<'a>>
+    ensures { IfSome result (λ t. IsOnly lp row.now t) }
 {
-    Part { end: 0, n: 0 }
-}
-
-// The trees up to the only one that may generate anything. None where there are two or none of the kind, and in a long row.
-fn only_tree(file: &[u8], l: Layout, p: Part, breaks: bool, continues: bool) -> Part
-    requires { Within file.now l p }
-    ensures { (result.n ≡ 0 → ⊥) → Only file.now l breaks continues p result }
-{
-    let mut found = no_part();
-    let mut left = p;
-    let mut steps: u32 = 32;
-    while left.n != 0 {
-        if steps == 0 {
-            return no_part();
+    let mut found = None;
+    let mut left = *row;
+    for _ in 0..33 {
+        let Some(tree) = left.next() else {
+            return found;
+        };
+        if is_passed(&tree, lp, 4) {
+            continue;
         }
-        let before = rest_of(file, l, left);
-        if !is_passed(file, l, left, before.end, breaks, continues, 4) {
-            if found.n != 0 {
-                return no_part();
-            }
-            found = left;
+        if found.is_some() {
+            return None;
         }
-        left = before;
-        steps -= 1;
+        found = Some(tree);
     }
-    found
+    None
 }
 
 // The same where that one is a Block.
-fn only_block(file: &[u8], l: Layout, p: Part, breaks: bool, continues: bool) -> Part
-    requires { Within file.now l p }
-    ensures { (result.n ≡ 0 → ⊥) → Only file.now l breaks continues p result × (kind_at file.now l result ≡ 4) }
+fn only_block<'a>(row: &Trees<'a>, lp: Loop) -> Option<Trees<'a>>
+    ensures { IfSome result (λ t. IsOnly lp row.now t × (kind_at (file_of t) t.script.layout t.part ≡ 4)) }
 {
-    let found = only_tree(file, l, p, breaks, continues);
-    if found.n == 0 {
-        return found;
+    let tree = only_tree(row, lp)?;
+    if tree.kind() != Kind::Block as u32 {
+        return None;
     }
-    if kind_at(file, l, found) != 4 {
-        return no_part();
-    }
-    found
+    Some(tree)
 }
 
 // The statements of the innermost Block.
-pub fn innermost(file: &[u8], l: Layout, p: Part, lp: Loop) -> Part
-    requires { Within file.now l p }
-    ensures { Innermost file.now l (loop_of lp) p result }
+pub fn innermost<'a>(row: &Trees<'a>, lp: Loop) -> Trees<'a>
+    ensures script { result.script ≡ row.now.script }
+    ensures innermost { Innermost (file_of row.now) row.now.script.layout (loop_of lp) row.now.part result.part }
 {
-    let exit = lp.exit;
-    let next = lp.next;
-    let breaks = is_nowhere(exit);
-    let continues = is_nowhere(next);
-    let mut inner = p;
-    let mut block = only_block(file, l, inner, breaks, continues);
-    while block.n != 0 {
-        let kids = children_of(file, l, block);
-        inner = list_at(file, l, kids, 0);
-        block = only_block(file, l, inner, breaks, continues);
+    let mut inner = *row;
+    while let Some(block) = only_block(&inner, lp) {
+        inner = block.children().list(0);
     }
     inner
 }

@@ -26,24 +26,19 @@ pub enum Each {
     Element,
 }
 
-#[derive(Clone, Copy)]
-pub enum Target {
-    To(Label),
-    Nowhere,
-}
-
+// Where Break and Continue jump to, if they are in a loop or a switch.
 #[derive(Clone, Copy)]
 pub struct Loop {
-    pub exit: Target,
-    pub next: Target,
+    pub exit: Option<Label>,
+    pub next: Option<Label>,
 }
 
 pub fn no_loop() -> Loop
     ensures { loop_of result ≡ no_loop }
 {
     Loop {
-        exit: Target::Nowhere,
-        next: Target::Nowhere,
+        exit: None,
+        next: None,
     }
 }
 
@@ -52,8 +47,8 @@ pub fn loop_to(exit: u32, next: u32) -> Loop
     ensures { loop_of result ≡ record { break_label = some exit; continue_label = some next } }
 {
     Loop {
-        exit: Target::To(Label(exit)),
-        next: Target::To(Label(next)),
+        exit: Some(Label(exit)),
+        next: Some(Label(next)),
     }
 }
 
@@ -61,9 +56,8 @@ pub fn loop_to(exit: u32, next: u32) -> Loop
 pub fn with_exit(lp: Loop, exit: u32) -> Loop
     ensures { loop_of result ≡ record { break_label = some exit; continue_label = (loop_of lp).continue_label } }
 {
-    let next = lp.next;
     Loop {
-        exit: Target::To(Label(exit)),
-        next,
+        exit: Some(Label(exit)),
+        ..lp
     }
 }

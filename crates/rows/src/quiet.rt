@@ -1,97 +1,71 @@
 // Statements that generate nothing, found by going down from record to record.
 ghost use Rattle.std.specs.Prelude.{◌≡◌, ◌-◌, ◌<◌, eqb};
+ghost use Rattle.std.specs.Option.{is_none};
+ghost use Rattle.script_records.specs.Kind.{number_of};
 ghost use Rattle.script_records.specs.Layout.{rows_of, row_in, HasRow};
-ghost use Rattle.tree.specs.Trees.{node_of};
-ghost use Rattle.tree.specs.Within.{Within};
-ghost use Rattle.rows.specs.Passed.{bit, passes_at, passed};
+ghost use Rattle.tree.specs.Handle.{file_of};
+ghost use Rattle.rows.specs.Passed.{passes_at};
+ghost use Rattle.rows.specs.Kept.{of_passed};
 
-use script_records::layout::{Layout, known_row};
-use script_records::part::Part;
-use tree::kind_at;
-
-fn bit(x: bool) -> usize
-    ensures { result ≡ bit x }
-{
-    if x { 1 } else { 0 }
-}
+use crate::Loop;
+use script_records::kind::Kind;
+use script_records::layout::ScriptFile;
+use tree::Trees;
 
 // Whether the record under the one below record e is of a kind.
-fn is_under(file: &[u8], l: Layout, e: usize, kind: u32) -> bool
-    requires { (0 < e) × HasRow file.now l (e - 1) }
-    ensures { result ≡ eqb (row_in (rows_of file.now l) (e - 2)).kind kind }
+fn is_under(script: &ScriptFile, e: usize, kind: Kind) -> bool
+    requires { (0 < e) × HasRow script.now.bytes.now script.now.layout (e - 1) }
+    ensures { result ≡ eqb (row_in (rows_of script.now.bytes.now script.now.layout) (e - 2)).kind (number_of kind) }
 {
-    let below = known_row(file, l, e.saturating_sub(2));
-    below.kind == kind
+    let below = script.known_row(e.saturating_sub(2));
+    below.kind == kind as u32
 }
 
-// How many records are passed below record e, 0 where the way ends.
-fn passes(file: &[u8], l: Layout, e: usize, breaks: bool, continues: bool) -> usize
-    requires { (0 < e) × HasRow file.now l (e - 1) }
-    ensures { result ≡ passes_at (rows_of file.now l) e breaks continues }
+// How many records are passed below record e, if the way goes on there.
+fn passes(script: &ScriptFile, e: usize, lp: Loop) -> Option<usize>
+    requires { (0 < e) × HasRow script.now.bytes.now script.now.layout (e - 1) }
+    ensures { result ≡ passes_at (rows_of script.now.bytes.now script.now.layout) e (is_none lp.exit) (is_none lp.next) }
 {
-    let row = known_row(file, l, e - 1);
-    if row.kind == 3 {
-        if is_under(file, l, e, 48) {
-            return row.size as usize;
-        }
-        return 0;
+    let row = script.known_row(e - 1);
+    if row.kind == Kind::Expr as u32 {
+        return is_under(script, e, Kind::Void).then_some(row.size as usize);
     }
-    if row.kind == 8 {
-        return bit(breaks);
+    if row.kind == Kind::Break as u32 {
+        return lp.exit.is_none().then_some(1);
     }
-    if row.kind == 9 {
-        return bit(continues);
+    if row.kind == Kind::Continue as u32 {
+        return lp.next.is_none().then_some(1);
     }
-    if row.kind == 4 {
-        return bit(is_under(file, l, e, 97));
+    if row.kind == Kind::Block as u32 {
+        return is_under(script, e, Kind::List).then_some(1);
     }
-    bit(row.kind == 97)
+    (row.kind == Kind::List as u32).then_some(1)
 }
 
-// Whether the way down from the end of a part comes to record `start` in fewer than so many steps.
-pub fn is_passed(
-    file: &[u8],
-    l: Layout,
-    p: Part,
-    start: usize,
-    breaks: bool,
-    continues: bool,
-    steps: u32,
-) -> bool
-    requires { Within file.now l p }
-    ensures { result ≡ passed steps (rows_of file.now l) start p.end breaks continues }
+// Whether the last tree is passed on the way down in fewer than so many steps.
+pub fn is_passed(tree: &Trees, lp: Loop, steps: u32) -> bool
+    ensures { result ≡ of_passed (file_of tree.now) tree.now.script.layout steps (is_none lp.exit) (is_none lp.next) tree.now.part }
 {
-    let mut e = p.end;
-    let mut left = steps;
-    while left != 0 {
+    let start = tree.rest().part.end;
+    let mut e = tree.part.end;
+    for _ in 0..steps {
         if e <= start {
             return true;
         }
-        let n = passes(file, l, e, breaks, continues);
-        if n == 0 {
+        let Some(n) = passes(&tree.script, e, lp) else {
             return false;
-        }
+        };
         e = e.saturating_sub(n);
-        left -= 1;
     }
     false
 }
 
-// Whether the last tree of a part, which starts at record `start`, is passed. An expression is a Void or it is not.
-pub fn is_quiet(
-    file: &[u8],
-    l: Layout,
-    p: Part,
-    start: usize,
-    breaks: bool,
-    continues: bool,
-) -> bool
-    requires within { Within file.now l p }
-    requires fact { (p.n ≡ 0 → ⊥) × (start ≡ (node_of file.now l p).before.end) }
-    ensures { result ≡ passed 128 (rows_of file.now l) start p.end breaks continues }
+// The same in 128 steps. An expression is a Void or it is not.
+pub fn is_quiet(tree: &Trees, lp: Loop) -> bool
+    ensures { result ≡ of_passed (file_of tree.now) tree.now.script.layout 128 (is_none lp.exit) (is_none lp.next) tree.now.part }
 {
-    if kind_at(file, l, p) == 3 {
-        return is_under(file, l, p.end, 48);
+    if tree.kind() == Kind::Expr as u32 {
+        return is_under(&tree.script, tree.part.end, Kind::Void);
     }
-    is_passed(file, l, p, start, breaks, continues, 128)
+    is_passed(tree, lp, 128)
 }

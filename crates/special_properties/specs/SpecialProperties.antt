@@ -1,9 +1,6 @@
 -- The names that `special_properties.rs` numbers, and the fixed names null and undefined.
-use Rattle.std.specs.Prelude.{ℕ, suc, ◌+◌, Bool, true, false, cond, ◌&&◌, List, [], ◌∷◌, eqb, leb}
-use Rattle.std.proofs.Math.Option.{Option, none, some}
+use Rattle.std.specs.Prelude.{ℕ, suc, ◌+◌, Bool, true, false, cond, ◌&&◌, List, [], ◌∷◌, Option, Some, None, eqb, leb}
 use Rattle.special_properties.specs.Text.{bytes}
-use Rattle.special_properties.specs.declared.Property.{Property}
-use Rattle.special_properties.specs.declared.Property.TheVariants as property
 
 -- a property's number is its name's place, from 0
 unfoldable pub names : List (List ℕ)
@@ -30,16 +27,11 @@ same_spelling = same to_ascii_lowercase
 
 -- the place of the first string that agrees with s, counted from i
 unfoldable pub first_from : ℕ → List (List ℕ) → List ℕ → Option ℕ
-first_from i [] s = none
-first_from i (x ∷ xs) s = cond (same_spelling s x) (some i) (first_from (suc i) xs s)
+first_from i [] s = None
+first_from i (x ∷ xs) s = cond (same_spelling s x) (Some i) (first_from (suc i) xs s)
 
 unfoldable pub get_special_property : List ℕ → Option ℕ
 get_special_property = first_from 0 names
-
--- what each case of the answer stands for
-abbrev pub property_of : Property → Option ℕ
-property_of (property.Number n) = some n
-property_of property.None = none
 
 -- the same bytes
 abbrev pub same_bytes : List ℕ → List ℕ → Bool

@@ -63,7 +63,7 @@ module _ {F : List ℕ} (l : Layout) (p : Part) {b : CodeBuilder} {w : List ℕ}
       statements_arm lp first others
 
   pub field_arm : {b1 b2 : CodeBuilder} {w1 w2 : List ℕ} →
-      {t : Node} → IsNode F l p t →
+      {t : Node Part} → IsNode F l p t →
       (key : ℕ) → text_in F key ≡ (param (rec_of F t.root)).name →
       Does F (push_string (text_in F key)) b w tt b1 w1 →
       Does F ((kid_at F p 0).gen_expr false) b1 w1 tt b2 w2 →
@@ -237,7 +237,7 @@ module _ {F : List ℕ} (l : Layout) (p : Part) {b : CodeBuilder} {w : List ℕ}
   pub ends_arm : {b1 b2 b3 b4 : CodeBuilder} {w1 w2 w3 w4 : List ℕ} →
       (lp : Loop) →
       (end : ℕ) →
-      {t : Node} → IsNode F l p t →
+      {t : Node Part} → IsNode F l p t →
       (p.n ≡ 0 → ⊥) →
       Does F (each_of Discarded lp 0 0 (meanings_at F t.before)) b w tt b1 w1 →
       Does F ((kid_at F p 0).gen_expr false) b1 w1 tt b2 w2 →

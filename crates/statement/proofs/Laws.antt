@@ -3,15 +3,20 @@ use Prim.Native.Nat.{ℕ, ◌+◌, ◌-◌, ◌≤◌, ◌<◌}
 use mathlib.Core.Path.{◌≡◌, refl, sym, ap, ◌∙◌}
 use mathlib.Core.List.{List, []}
 use mathlib.Core.Bool.{Bool, true, false, cond, not, ◌&&◌, ◌||◌}
+use mathlib.Core.Logic.{◌⊎◌, inl, inr}
 use mathlib.Core.Option.{get_or, none, some}
 use native.Mathlib.Omega.{arith}
 use lib.Dec.{T, leb, ltb, eqb}
 use borrow.Author.Tests.{lt-ltb, ltb-true}
+use lib.IntN.{pos}
+use Rattle.std.specs.Int.{from_bool}
+use Rattle.decode.specs.Numbers.{unsigned}
 use Rattle.hir.specs.Hir.{Str, Rec}
 use Rattle.hir.specs.declared.Affix.{Affix}
 use Rattle.hir.specs.Tree.{Forest}
 use Rattle.hir.specs.declared.ConstantKind.{ConstantKind}
 use Rattle.hir.specs.declared.ConstantKind.TheVariants as code-constant
+use Rattle.hir.specs.declared.ExprKind.{ExprKind}
 use Rattle.hir.specs.declared.ExprKind.TheVariants as expr-kind
 use Rattle.hir.specs.declared.StatementKind.{StatementKind}
 use Rattle.hir.specs.declared.Record.{Record}
@@ -24,12 +29,14 @@ use Rattle.script_records.specs.declared.part.Part.{Part}
 use Rattle.script_records.specs.Layout.{layout_of, string_at}
 use Rattle.script.specs.Resolve.{resolved, statement_over}
 use Rattle.lowering.specs.Builder.{Step, ◌>>◌, done, when, action, plain_action, push, define_function, define_delta, name_delta}
+use Rattle.lowering.specs.Meaning as meaning
 use Rattle.lowering.specs.Meaning.{Loop, Meaning, nth, list, present, element, shape_of, literal}
 use Rattle.lowering.specs.Statement.{meanings, expr, exprs, all_discarded, branch, has_case, has_default, no_loop, header, gen_statements, gen_values, gen_condition, default_label, is_prefix, bit, gen_start_drag, gen_statement, expr_of, statement_of, for_shape}
 use Rattle.lowering.proofs.Laws.{kid_law, list_law}
 use Rattle.list_slice.specs.File.{header_in, params_of, names_string, names_function}
 use Rattle.tree.specs.declared.Node.{Node}
 use Rattle.tree.specs.declared.Element.{Element}
+use Rattle.tree.specs.declared.Element.TheVariants as code-element
 use Rattle.tree.specs.declared.Counts.{Counts}
 use Rattle.tree.specs.Trees.{trees, rec_of, element_of, meant, counts_of}
 use Rattle.tree.specs.Within.{live, constant_named, record_named, Within, IsNode, IsList, meanings_at, kid_at, list_at}
@@ -39,16 +46,44 @@ use Rattle.tree.proofs.Meanings as tree-meanings
 use Rattle.tree.proofs.Counting.{element_is}
 use Rattle.operators.specs.declared.shape.Shape.{Shape}
 use Rattle.operators.specs.declared.shape.Shape.TheVariants as code_shape
-use Rattle.operators.specs.declared.shape.Literal.{Literal}
 use Rattle.operators.specs.declared.shape.Literal.TheVariants as code-literal
-use Rattle.operators.specs.Shapes.{root_shape, constant_literal, shape_literal}
+use Rattle.std.specs.Prelude.{Some, IfSome, option_map, unwrap_or}
+use Rattle.lowering.specs.Access.{Direct, ◌gives◌}
+use Rattle.operators.specs.Shapes.{root_shape, constant_literal, shape_literal, shape_in}
 use Rattle.operators.proofs.Shapes.{shape_named}
 use Rattle.builder.specs.Labels.{labels_of_forest, elements_from}
-use Rattle.rows.specs.Rows.{cases_of}
+use Rattle.rows.specs.Rows.{cases_of, conditional}
 use Rattle.leaves.proofs.Args.{expr_any, expr_at}
 use Rattle.statement.proofs.Rows.{has_case_is, has_label_is, labels_is, cases_is, default_is}
 
-module _ {F : List ℕ} {l : Layout} {p : Part} {t : Node} (n : IsNode F l p t) where
+-- a record that is no expression and stands for none, and one that is no statement, generate nothing
+
+without_expr : (F : List ℕ) (r : Record) (ms : Forest Meaning) (d : Bool) → ((k : ExprKind) → r ≡ kind.Expr k → ⊥) → (r ≡ kind.Case → ⊥) → ((s : ℕ) → r ≡ kind.ObjectField s → ⊥) →
+    expr_of (rec_of F r) ms d ≡ done
+unfolding resolved
+without_expr F (kind.Expr k) ms d x y z = absurd (x k refl)
+without_expr F kind.Case ms d x y z = absurd (y refl)
+without_expr F (kind.ObjectField s) ms d x y z = absurd (z s refl)
+without_expr F (kind.Statement k) ms d x y z = refl
+without_expr F kind.Absent ms d x y z = refl
+without_expr F (kind.List n) ms d x y z = refl
+without_expr F (kind.Parameter s n) ms d x y z = refl
+without_expr F kind.Default ms d x y z = refl
+without_expr F kind.Other ms d x y z = refl
+
+without_statement : (F : List ℕ) (r : Record) (ms : Forest Meaning) (lp : Loop) → ((k : StatementKind) → r ≡ kind.Statement k → ⊥) → statement_of (rec_of F r) ms lp ≡ done
+unfolding resolved
+without_statement F (kind.Statement k) ms lp x = absurd (x k refl)
+without_statement F (kind.Expr k) ms lp x = refl
+without_statement F kind.Absent ms lp x = refl
+without_statement F (kind.List n) ms lp x = refl
+without_statement F (kind.ObjectField s) ms lp x = refl
+without_statement F (kind.Parameter s n) ms lp x = refl
+without_statement F kind.Case ms lp x = refl
+without_statement F kind.Default ms lp x = refl
+without_statement F kind.Other ms lp x = refl
+
+module _ {F : List ℕ} {l : Layout} {p : Part} {t : Node Part} (n : IsNode F l p t) where
   pub rec_is : (kid_at F p 0).rec ≡ rec_of F t.root
   rec_is = ap (λ (m : Meaning). m.rec) (kid_zero F l p n)
 
@@ -59,17 +94,13 @@ module _ {F : List ℕ} {l : Layout} {p : Part} {t : Node} (n : IsNode F l p t) 
   -- an expression, a statement, an access
 
   -- a Case or an object's field stands for its value
-  pub case_at : (d : Bool) → t.root ≡ kind.Case → (kid_at F p 0).gen_expr d ≡ (kid_at F t.children 0).gen_expr d
+  pub value_at : (d : Bool) → (t.root ≡ kind.Case) ⊎ ((s : ℕ) × (t.root ≡ kind.ObjectField s)) → (kid_at F p 0).gen_expr d ≡ (kid_at F t.children 0).gen_expr d
   unfolding resolved
-  case_at d e = expr_any n d ∙ rw e
+  value_at d (inl e) = expr_any n d ∙ rw e
+  value_at d (inr e) = expr_any n d ∙ rw e.1
 
-  pub field_at : {k : ℕ} (d : Bool) → t.root ≡ kind.ObjectField k → (kid_at F p 0).gen_expr d ≡ (kid_at F t.children 0).gen_expr d
-  unfolding resolved
-  field_at d e = expr_any n d ∙ rw e
-
-  -- a record that is no expression
-  pub no_expr : (d : Bool) {r : Record} → t.root ≡ r → expr_of (rec_of F r) (meanings_at F t.children) d ≡ done → (kid_at F p 0).gen_expr d ≡ done
-  no_expr d e h = expr_any n d ∙ rw e h
+  pub no_expr : (d : Bool) → ((k : ExprKind) → t.root ≡ kind.Expr k → ⊥) → (t.root ≡ kind.Case → ⊥) → ((s : ℕ) → t.root ≡ kind.ObjectField s → ⊥) → (kid_at F p 0).gen_expr d ≡ done
+  no_expr d x y z = expr_any n d ∙ without_expr F t.root (meanings_at F t.children) d x y z
 
   statement_any : (lp : Loop) → (kid_at F p 0).gen_statement lp ≡ statement_of (rec_of F t.root) (meanings_at F t.children) lp
   statement_any lp = ap (λ (m : Meaning). m.gen_statement lp) (kid_zero F l p n)
@@ -79,8 +110,8 @@ module _ {F : List ℕ} {l : Layout} {p : Part} {t : Node} (n : IsNode F l p t) 
   unfolding resolved
   statement_at lp e = statement_any lp ∙ rw e
 
-  pub no_statement : (lp : Loop) {r : Record} → t.root ≡ r → statement_of (rec_of F r) (meanings_at F t.children) lp ≡ done → (kid_at F p 0).gen_statement lp ≡ done
-  no_statement lp e h = statement_any lp ∙ rw e h
+  pub no_statement : (lp : Loop) → ((k : StatementKind) → t.root ≡ kind.Statement k → ⊥) → (kid_at F p 0).gen_statement lp ≡ done
+  no_statement lp x = statement_any lp ∙ without_statement F t.root (meanings_at F t.children) lp x
 
   pub access_at : (kid_at F p 0).for_expr ≡ for_shape (shape_of (rec_of F t.root)) (meanings_at F t.children) ((kid_at F p 0).gen_expr false)
   access_at = ap (λ (m : Meaning). m.for_expr) (kid_zero F l p n) ∙ ap (λ (s : Step). for_shape (shape_of (rec_of F t.root)) (meanings_at F t.children) s) (sym (expr_any n false))
@@ -91,6 +122,15 @@ module _ {F : List ℕ} {l : Layout} {p : Part} {t : Node} (n : IsNode F l p t) 
   pub condition_law : (p.n ≡ 0 → ⊥) → (end : ℕ) → gen_condition end (meanings_at F p) ≡ all_discarded (meanings_at F t.before) >> expr (kid_at F p 0) >> action Not >> branch end
   unfolding meanings
   condition_law z end = rw (trees_more F l p n (omega arith))
+
+pub value_live : {r : Record} → (r ≡ kind.Case) ⊎ ((s : ℕ) × (r ≡ kind.ObjectField s)) → live r ≡ 1
+value_live (inl e) = ap live e
+value_live (inr e) = ap live e.1
+
+-- only a Case is tested
+pub untested : (f s c : ℕ) (m : Meaning) {e : meaning.Element} {x : Element} → e ≡ meant x → (x ≡ code-element.Default) ⊎ (x ≡ code-element.Statement) → conditional f s c m e ≡ done
+untested f s c m e (inl x) = rw (e, x)
+untested f s c m e (inr x) = rw (e, x)
 
 -- rows with and without trees
 pub none_at : (F : List ℕ) (p : Part) → p.n ≡ 0 → meanings_at F p ≡ Forest.none
@@ -149,10 +189,10 @@ module _ {F : List ℕ} {l : Layout} {p es : Part} (k : IsList F l p 0 es) {n : 
   pub labels_less : n.labels ≤ p.n
   labels_less = rw e (omega (arith, labelled_less F es, k.fewer))
 
-  pub default_less : n.from_default ≤ n.labels
+  pub default_less : IfSome n.from_default (λ k. k ≤ n.labels)
   default_less = rw e (tree-meanings.default_less F es)
 
-  pub switching : (end first : ℕ) {default : ℕ} → first + p.n < 0x1_0000_0000 → default ≡ cond (eqb n.from_default 0) end (first + (n.labels - n.from_default)) → Switching F p end first default n.cases
+  pub switching : (end first : ℕ) {default : ℕ} → first + p.n < 0x1_0000_0000 → default ≡ unwrap_or (option_map (λ k. first + (n.labels - k)) n.from_default) end → Switching F p end first default n.cases
   switching end first s d = record { testing = record { cases = cases_counted; small = s }; default_is = d ∙ rw (e, k.means) (sym (default_is end first (trees F es))) }
 
 pub no_labels : (F : List ℕ) (p : Part) (first : ℕ) → labels_of_forest (list_at F p 0) ≡ 0 → (has_case (elements_from first (list_at F p 0)) || has_default (elements_from first (list_at F p 0))) ≡ false
@@ -170,7 +210,7 @@ delta_at : (name : Str) (g m : ℕ) (ps : List Param) (t : Bool) → define_delt
 delta_at name g m ps true = refl
 delta_at name g m ps false = refl
 
-module _ {F : List ℕ} {l : Layout} {p : Part} {t : Node} (i : IsNode F l p t) {n g m : ℕ} (e : t.root ≡ kind.Expr (expr-kind.Function n g m)) where
+module _ {F : List ℕ} {l : Layout} {p : Part} {t : Node Part} (i : IsNode F l p t) {n g m : ℕ} (e : t.root ≡ kind.Expr (expr-kind.Function n g m)) where
   pub function_at : (d : Bool) → (kid_at F p 0).gen_expr d ≡ define_function (header_in F t.number) (gen_statements no_loop (list_at F t.children 0))
   function_at d =
       expr_at i d e ∙ rw (name_at (eqb n 0) (string_at F (layout_of F) (n - 1)), list_law 1 (trees F t.children), params_are (list 1 (trees F t.children)), ← i.function_header n g m e)
@@ -180,40 +220,33 @@ module _ {F : List ℕ} {l : Layout} {p : Part} {t : Node} (i : IsNode F l p t) 
 
 -- a literal's string is a string of the file
 
-abbrev is_string : Literal → Type 0
-is_string (code-literal.String s) = Unit
-is_string (code-literal.Integer n) = ⊥
-is_string (code-literal.Float low high) = ⊥
-is_string code-literal.NoLiteral = ⊥
-
-not_string : (x : Literal) (s : ℕ) → (is_string x → ⊥) → x ≡ code-literal.String s → ⊥
-not_string x s h e = h (rw e tt)
-
-constant_string : (F : List ℕ) (c : ConstantKind) (s : ℕ) → T (constant_named F c) → constant_literal c ≡ code-literal.String s → T (names_string F s)
+constant_string : (F : List ℕ) (c : ConstantKind) (s : ℕ) → T (constant_named F c) → constant_literal c ≡ Some (code-literal.String s) → T (names_string F s)
 constant_string F (code-constant.String r) s h e = let x : r ≡ s = cc in rw (← x) h
-constant_string F (code-constant.Identifier r) s h e = absurd (not_string _ s (λ z. z) e)
-constant_string F (code-constant.Float low high) s h e = absurd (not_string _ s (λ z. z) e)
-constant_string F (code-constant.Integer n) s h e = absurd (not_string _ s (λ z. z) e)
-constant_string F (code-constant.Boolean b) s h e = absurd (not_string _ s (λ z. z) e)
-constant_string F (code-constant.Register r) s h e = absurd (not_string _ s (λ z. z) e)
+constant_string F (code-constant.Identifier r) s h e = cc
+constant_string F (code-constant.Float low high) s h e = cc
+constant_string F (code-constant.Integer n) s h e = cc
+constant_string F (code-constant.Boolean b) s h e = cc
+constant_string F (code-constant.Register r) s h e = cc
 
-shape_string : (F : List ℕ) (i : ℕ) (r : Record) (x : Shape) (s : ℕ) → T (record_named F i r) → root_shape r ≡ x → shape_literal x ≡ code-literal.String s → T (names_string F s)
+shape_string : (F : List ℕ) (i : ℕ) (r : Record) (x : Shape) (s : ℕ) → T (record_named F i r) → root_shape r ≡ x → shape_literal x ≡ Some (code-literal.String s) → T (names_string F s)
 shape_string F i r (code_shape.Constant c) s h k e = constant_string F c s (shape_named F i r h c k) e
-shape_string F i r code_shape.Field s h k e = absurd (not_string _ s (λ z. z) e)
-shape_string F i r code_shape.NamedFunction s h k e = absurd (not_string _ s (λ z. z) e)
-shape_string F i r code_shape.Other s h k e = absurd (not_string _ s (λ z. z) e)
+shape_string F i r code_shape.Field s h k e = cc
+shape_string F i r code_shape.NamedFunction s h k e = cc
+shape_string F i r code_shape.Other s h k e = cc
 
-pub literal_named : (F : List ℕ) (i : ℕ) (r : Record) (s : ℕ) → T (record_named F i r) → shape_literal (root_shape r) ≡ code-literal.String s → T (names_string F s)
+pub literal_named : (F : List ℕ) (i : ℕ) (r : Record) (s : ℕ) → T (record_named F i r) → shape_literal (root_shape r) ≡ Some (code-literal.String s) → T (names_string F s)
 literal_named F i r s h e = shape_string F i r (root_shape r) s h refl e
+
+-- what is generated as any other expression is
+pub plain_access : (F : List ℕ) {x : Shape} → (x ≡ code_shape.NamedFunction) ⊎ (x ≡ code_shape.Other) → (ms : Forest Meaning) (m : Step) → for_shape (shape_in F x) ms m ≡ (m gives Direct)
+plain_access F (inl e) ms m = rw e
+plain_access F (inr e) ms m = rw e
 
 -- a Field is there
 pub field_live : (r : Record) → root_shape r ≡ code_shape.Field → 1 ≤ live r
 field_live (kind.Expr k) e = omega arith
 field_live (kind.Statement k) e = omega arith
-field_live kind.Absent e = absurd (other_field e)
-  where
-    other_field : code_shape.Other ≡ code_shape.Field → ⊥
-    other_field x = let y : ◌≡◌ {A = ℕ} 0 1 = cc in absurd (omega arith)
+field_live kind.Absent e = cc
 field_live (kind.List n) e = omega arith
 field_live (kind.ObjectField n) e = omega arith
 field_live (kind.Parameter n r) e = omega arith
@@ -229,6 +262,14 @@ both_true false b h = elim h [ ]
 pub number_less : (F : List ℕ) (i : ℕ) → T (names_function F i) → i < (layout_of F).count
 unfolding names_function
 number_less F i h = ltb-true i (layout_of F).count (both_true (ltb i (layout_of F).count) _ h)
+
+pub bool_small : (b : Bool) → from_bool b ≤ 1
+bool_small true = omega arith
+bool_small false = omega arith
+
+pub bit_is : (b : Bool) → unsigned (pos (from_bool b)) ≡ bit b
+bit_is true = refl
+bit_is false = refl
 
 -- `adjust` with a value that is wanted passes its part on to itself with a value that is not
 pub rank_least : (d : Bool) → 3 ≤ cond d 3 4

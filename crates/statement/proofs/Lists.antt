@@ -45,15 +45,15 @@ pub record Top (F : List ℕ) (l : Layout) (e : Each) (lp : Loop) (lo : ℕ) (x 
   pub within : Within F l (upto lo j)
   pub kept : Kept F l e lp lo x u j last
 
-kept_top : (F : List ℕ) (l : Layout) (e : Each) (lp : Loop) (lo : ℕ) (x : List ℕ) (top q last : ℕ) → (top ≡ 0 → ⊥) → Kept F l e lp lo x top q last → Top F l e lp lo x (top - 1) q last (get_or x (top - 1) 0)
+kept_top : (F : List ℕ) (l : Layout) (e : Each) (lp : Loop) (lo : ℕ) (x : List ℕ) (top q last : ℕ) → 0 < top → Kept F l e lp lo x top q last → Top F l e lp lo x (top - 1) q last (get_or x (top - 1) 0)
 unfolding Kept
-kept_top F l e lp lo x zero q last h c = absurd (h refl)
+kept_top F l e lp lo x zero q last h c = absurd (omega arith)
 kept_top F l e lp lo x (suc u) q last h c =
     let z : suc u - 1 ≡ u = omega arith in
     rw z (record { idle = c.0; up = c.1; room = c.2; within = c.3; kept = c.4 })
 
 -- a row, by its last tree
-module _ (F : List ℕ) (l : Layout) (p : Part) {t : Node} (i : IsNode F l p t) (h : 0 < p.n) where
+module _ (F : List ℕ) (l : Layout) (p : Part) {t : Node Part} (i : IsNode F l p t) (h : 0 < p.n) where
   pub labels_at_lem : {x : Element} → x ≡ element_of t.root → labels_of_forest (meanings_at F p) ≡ labels_of_forest (meanings_at F t.before) + is_labelled (meant x)
   labels_at_lem e = labels_more F l p i h ∙ rw (e, ← element_is (string_at F (layout_of F)) t.root, (one_is (element (rec_of F t.root))).0)
 
@@ -102,10 +102,10 @@ module _ (F : List ℕ) (l : Layout) (e : Each) (lp : Loop) (f d : ℕ) where
     stopped_kept (suc u) q last a c r =
         stopped_kept u (get_or x u 0) last (omega (arith, c.0.up, c.1)) c.4 (over_tree (omega (arith, c.0.up)) c.1 c.3 (over_idle c.0 r))
 
-module _ {F : List ℕ} {l : Layout} (e : Each) (lp : Loop) (f d : ℕ) where
-  pub pop_holds : (x : List ℕ) (last lo top : ℕ) (w : List ℕ) (b : CodeBuilder) → Fine b w → last - lo ≤ length x → Kept F l e lp lo x top lo last → PopInv F l e lp f d w x last lo b w x top b 0 0
+module _ {F : List ℕ} {l : Layout} {e : Each} {lp : Loop} {f d : ℕ} where
+  pub pop_holds : {x : List ℕ} {last lo top : ℕ} {w : List ℕ} {b : CodeBuilder} → Fine b w → last - lo ≤ length x → Kept F l e lp lo x top lo last → PopInv F l e lp f d w x last lo b w x top b 0 0
   unfolding meanings each_of labels_of_forest cases_of
-  pop_holds x last lo top w b fine r k =
+  pop_holds {lo = lo} {w = w} {b = b} fine r k =
       let n : lo - lo ≡ 0 = omega arith in
       let t : trees F (upto lo lo) ≡ Forest.none = trees_none F (upto lo lo) n in
       record {
@@ -123,11 +123,11 @@ module _ {F : List ℕ} {l : Layout} (e : Each) (lp : Loop) (f d : ℕ) where
       }
 
   module _ {w0 x0 : List ℕ} {last lo : ℕ} {b0 : CodeBuilder} {w x : List ℕ} {top : ℕ} {b : CodeBuilder} {seen cases : ℕ} (i : PopInv F l e lp f d w0 x0 last lo b0 w x top b seen cases) where
-    pub pop_top : (top ≡ 0 → ⊥) → Top F l e lp lo x (top - 1) i.done last (get_or x (top - 1) 0)
+    pub pop_top : 0 < top → Top F l e lp lo x (top - 1) i.done last (get_or x (top - 1) 0)
     pop_top h = kept_top F l e lp lo x top i.done last h i.kept
 
     -- the next tree: its place in x, room for its records, and how many labels and cases come before it
-    module _ (h : top ≡ 0 → ⊥) where
+    module _ (h : 0 < top) where
       pub pop_inside : top - 1 < length x
       pop_inside = let t = pop_top h in omega (arith, t.room, t.up, t.idle.up, i.low, i.wide, i.scratch)
 
@@ -171,7 +171,7 @@ module _ {F : List ℕ} {l : Layout} (e : Each) (lp : Loop) (f d : ℕ) where
         }
 
     -- the callee was lent the part of x from top - 1 on, and left `part` there
-    pub pop_again : {w1 : List ℕ} (part : List ℕ) {b1 : CodeBuilder} {y : Element} {seen1 cases1 : ℕ} → (h : top ≡ 0 → ⊥) →
+    pub pop_again : {w1 : List ℕ} (part : List ℕ) {b1 : CodeBuilder} {y : Element} {seen1 cases1 : ℕ} → (h : 0 < top) →
         Does F (one_of e lp f d seen cases (kid_at F (upto lo (get_or x (top - 1) 0)) 0) (list_at F (upto lo (get_or x (top - 1) 0)) 0)) b w tt b1 w1 →
         y ≡ element_of (node_of F l (upto lo (get_or x (top - 1) 0))).root → seen1 ≡ seen + is_labelled (meant y) → cases1 ≡ cases + is_case (meant y) →
         length w1 ≡ length w → length part ≡ length (mid_of (top - 1) (length x - (top - 1)) x) →
@@ -185,9 +185,10 @@ module _ {F : List ℕ} {l : Layout} (e : Each) (lp : Loop) (f d : ℕ) where
         let m : upto lo last ≡ g = sym (part_is g last (last - lo) a c) in
         record { same = rw m at (stopped_kept F l e lp f d lo x b0 w0 h i.fine top i.done last i.low i.kept i.same); fine = i.fine; named = i.named }
 
-    pub pop_done : top ≡ 0 → (g : Part) → g.end ≡ last → g.n ≡ last - lo → Does F (each_of e lp f d (meanings_at F g)) b0 w0 tt b w
+    pub pop_done : top ≤ 0 → (g : Part) → g.end ≡ last → g.n ≡ last - lo → Does F (each_of e lp f d (meanings_at F g)) b0 w0 tt b w
     unfolding Kept
-    pop_done z g a c =
+    pop_done h g a c =
+        let z : top ≡ 0 = omega arith in
         let m : upto lo last ≡ g = sym (part_is g last (last - lo) a c) in
         let k : Idle F e lp lo i.done last = rw z at i.kept in
         record { same = rw (← m) (i.same ∙ sym (k.same f d _)); fine = i.fine; named = i.named }

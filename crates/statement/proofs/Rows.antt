@@ -1,12 +1,13 @@
 -- Every row of the definition is a row in the one form.
-use Prim.Native.Nat.{ℕ, zero, suc, ◌+◌, ◌-◌}
+use Prim.Native.Nat.{ℕ, suc, ◌+◌, ◌-◌}
 use mathlib.Core.Path.{◌≡◌, refl, sym, ap, ◌∙◌}
 use mathlib.Core.List.{List, ◌∷◌}
 use mathlib.Core.Bool.{Bool, true, false, cond, not, ◌||◌}
 use native.Mathlib.Omega.{arith}
 use native.Mathlib.Nat.{add-zero}
-use lib.Dec.{ltb, eqb}
-use borrow.Author.Tests.{lt-ltb, ne_eqb}
+use lib.Dec.{ltb}
+use borrow.Author.Tests.{lt-ltb}
+use Rattle.std.specs.Prelude.{Option, Some, None, option_map, unwrap_or}
 use Rattle.hir.specs.Hir.{Rec}
 use Rattle.hir.specs.Tree.{Forest, more}
 use Rattle.pcode.specs.Pcode.{Value}
@@ -155,12 +156,12 @@ cases_is Forest.none = refl
 cases_is (more g r kids) = rw (cases_is g, (one_is (element r)).1)
 
 -- the label of the last Default, by how many labels stand from it on
-abbrev label_from : (end f n k : ℕ) → ℕ
-label_from end f n k = cond (eqb k 0) end (f + (n - k))
+abbrev label_from : (end f n : ℕ) → Option ℕ → ℕ
+label_from end f n o = unwrap_or (option_map (λ k. f + (n - k)) o) end
 
-after_at_lem : (end f n k : ℕ) → label_from end f n k ≡ label_from end f (n + 1) (from_default_at meaning.case k)
-after_at_lem end f n zero = refl
-after_at_lem end f n (suc k) = let e : n + 1 - suc (suc k) ≡ n - suc k = omega arith in rw (ne_eqb (suc k) 0 (λ e. omega arith), ne_eqb (suc (suc k)) 0 (λ e. omega arith), e)
+after_at_lem : (end f n : ℕ) (o : Option ℕ) → label_from end f n o ≡ label_from end f (n + 1) (from_default_at meaning.case o)
+after_at_lem end f n None = refl
+after_at_lem end f n (Some k) = let e : n + 1 - suc k ≡ n - k = omega arith in rw e
 
 default_at : (end f : ℕ) (g : Forest Rec) (m : Meaning) (e : meaning.Element) → labels_of_forest (meanings g) ≡ labelled g →
     default_label end (elements_from f (meanings g)) ≡ label_from end f (labelled g) (from_default_of g) →

@@ -2,7 +2,7 @@
 
 // Statements, expressions, accesses and function bodies (`statement.rs`). They call each other in a ring: a call goes to a part of fewer records, or to the
 // same part further down in this order: the constructs, gen_statements, each and args, one, for_expr, gen_expr and gen_statement.
-// Each takes the file and its layout, the part whose last tree (or whose trees) it generates, the builder, the list slice, and a scratch slice.
+// Each takes the trees, the last of which (or all of which) it generates, the builder, the list slice, and a scratch slice.
 ghost use Rattle.std.specs.Prelude.{◌≡◌, ◌+◌, ◌≤◌, ◌<◌, T, length};
 ghost use Rattle.pcode.specs.Pcode.{moved};
 ghost use Rattle.script_records.specs.Layout.{layout_of, string_at};
@@ -13,8 +13,8 @@ ghost use Rattle.lowering.specs.Operators.{plan};
 ghost use Rattle.lowering.specs.Statement as statement;
 ghost use Rattle.list_slice.specs.File.{names_function, header_in};
 ghost use Rattle.codegen_state.specs.Does.{Does};
-ghost use Rattle.tree.specs.Trees.{trees};
-ghost use Rattle.tree.specs.Within.{condition_named, meanings_at, kid_at, list_at};
+ghost use Rattle.tree.specs.Within.{condition_named};
+ghost use Rattle.tree.specs.Handle.{file_of, trees_of, meanings_of, kid_of, list_of};
 ghost use Rattle.access.specs.Accesses.{access_of};
 ghost use Rattle.rows.specs.Rows.{loop_of, each_of, one_of, call_of};
 ghost use Rattle.statement.specs.Walk.{Walk};
@@ -30,49 +30,42 @@ use codegen_state::CodeBuilder;
 use constants::push_string;
 use hir::{Affix, BinaryOperator, ExprKind, ForCondition, Record, StatementKind, UnaryOperator};
 use leaves::{
-    assign_value, bit_of, default_label, frame_of, gen_target, has_hoisted, is_case, is_hoisted,
+    assign_value, default_label, frame_of, gen_target, has_hoisted, is_case, is_hoisted,
     is_labelled, jump_to, keeps_old, leaves_none, leaves_value, name_of, negate_float,
     negate_integer, play_if, push_constants, push_count, push_if, read_constant, word_of,
 };
-use operators::shape::{Literal, Shape, is_present, literal_of, shape_of};
-use operators::{Plan, action_of, plan_of};
+use operators::shape::{Literal, Shape, is_present, literal_of};
+use operators::{Plan, action_of};
 use pcode::{Label, Op, PushValue};
 use rows::blocks::innermost;
 use rows::ends::ends_of;
 use rows::{Each, Loop, loop_to, no_loop, with_exit};
-use script_records::layout::Layout;
 use script_records::part::Part;
-use tree::{
-    Element, counts_of, element_at, element_of, kid_at, list_at, node_at, rest_of, width_of,
-};
+use tree::{Element, Trees};
 
 // Named function expressions that are whole statements come first.
 #[cycle(ring)]
 pub fn gen_statements(
-    file: &[u8],
-    l: Layout,
-    p: Part,
+    t: &Trees,
     b: CodeBuilder,
     list: &mut [u32],
     scratch: &mut [usize],
     lp: Loop,
 ) -> CodeBuilder
-    requires { Walk file.now l p b list.old (length scratch.old) }
-    ensures { Does file.now (statement.gen_statements (loop_of lp) (meanings_at file.now p)) b list.old tt result list.new }
+    requires { Walk t.now b list.old (length scratch.old) }
+    ensures { Does (file_of t.now) (statement.gen_statements (loop_of lp) (meanings_of t.now)) b list.old tt result list.new }
 {
-    if !has_hoisted(file, l, p) {
-        return each(file, l, p, b, list, scratch, Each::Statement, lp, 0, 0);
+    if !has_hoisted(t) {
+        return each(t, b, list, scratch, Each::Statement, lp, 0, 0);
     }
-    let b1 = each(file, l, p, b, list, scratch, Each::Hoisted, lp, 0, 0);
-    each(file, l, p, b1, list, scratch, Each::Unhoisted, lp, 0, 0)
+    let b1 = each(t, b, list, scratch, Each::Hoisted, lp, 0, 0);
+    each(t, b1, list, scratch, Each::Unhoisted, lp, 0, 0)
 }
 
 // Each tree of a row, the first first. `seen` and `cases` count the trees before with a label, and the cases among them.
 #[cycle(ring)]
 fn each(
-    file: &[u8],
-    l: Layout,
-    p: Part,
+    t: &Trees,
     b: CodeBuilder,
     list: &mut [u32],
     scratch: &mut [usize],
@@ -81,29 +74,32 @@ fn each(
     first: u32,
     default: u32,
 ) -> CodeBuilder
-    requires walk { Walk file.now l p b list.old (length scratch.old) }
-    requires n_bound { first + p.n < 4294967296 }
-    ensures { Does file.now (each_of what (loop_of lp) first default (meanings_at file.now p)) b list.old tt result list.new }
+    requires walk { Walk t.now b list.old (length scratch.old) }
+    requires n_bound { first + t.now.part.n < 4294967296 }
+    ensures { Does (file_of t.now) (each_of what (loop_of lp) first default (meanings_of t.now)) b list.old tt result list.new }
 {
     if b.refused != 0 {
         return b;
     }
-    let lo = p.end - p.n;
-    let mut top = ends_of(file, l, p, scratch, what, lp);
+    let start = t.part.end - t.part.n;
+    let count = ends_of(t, scratch, what, lp);
     let mut cur = b;
     let mut seen: u32 = 0;
     let mut cases: u32 = 0;
-    while top != 0 {
+    for top in (0..count).rev() {
         if cur.refused != 0 {
             return cur;
         }
-        top -= 1;
         let end = scratch[top];
-        let part = Part { end, n: end - lo };
+        let trees = Trees {
+            script: t.script,
+            part: Part {
+                end,
+                n: end - start,
+            },
+        };
         cur = one(
-            file,
-            l,
-            part,
+            &trees,
             cur,
             list,
             &mut scratch[top..],
@@ -114,18 +110,16 @@ fn each(
             seen,
             cases,
         );
-        let e = element_at(file, l, part);
-        seen = seen + is_labelled(e);
-        cases = cases + is_case(e);
+        let e = trees.element();
+        seen += u32::from(is_labelled(e));
+        cases += u32::from(is_case(e));
     }
     cur
 }
 
 #[cycle(ring)]
 fn one(
-    file: &[u8],
-    l: Layout,
-    p: Part,
+    t: &Trees,
     b: CodeBuilder,
     list: &mut [u32],
     scratch: &mut [usize],
@@ -136,55 +130,49 @@ fn one(
     seen: u32,
     cases: u32,
 ) -> CodeBuilder
-    requires walk { Walk file.now l p b list.old (length scratch.old) }
+    requires walk { Walk t.now b list.old (length scratch.old) }
     requires seen_bound { first + seen < 4294967296 }
-    ensures { Does file.now (one_of what (loop_of lp) first default seen cases (kid_at file.now p 0) (list_at file.now p 0)) b list.old tt result list.new }
+    ensures { Does (file_of t.now) (one_of what (loop_of lp) first default seen cases (kid_of t.now 0) (list_of t.now 0)) b list.old tt result list.new }
 {
     match what {
-        Each::Expr => gen_expr(file, l, p, b, list, scratch, false),
+        Each::Expr => gen_expr(t, b, list, scratch, false),
         Each::Discarded => {
-            let b1 = gen_expr(file, l, p, b, list, scratch, true);
+            let b1 = gen_expr(t, b, list, scratch, true);
             truncate_stack(list, b1, b.size)
         }
         Each::Field => {
-            let t = node_at(file, l, p);
-            let root = t.root;
-            let key = name_of(root);
-            let b1 = push_string(file, l, list, b, key);
-            gen_expr(file, l, p, b1, list, scratch, false)
+            let node = t.node();
+            let key = name_of(node.root);
+            let b1 = push_string(t.script.bytes, t.script.layout, list, b, key);
+            gen_expr(t, b1, list, scratch, false)
         }
-        Each::Statement => gen_statement(file, l, p, b, list, scratch, lp),
+        Each::Statement => gen_statement(t, b, list, scratch, lp),
         Each::Hoisted => {
-            if is_hoisted(file, l, p) {
-                return gen_statement(file, l, p, b, list, scratch, lp);
+            if is_hoisted(t) {
+                return gen_statement(t, b, list, scratch, lp);
             }
             b
         }
         Each::Unhoisted => {
-            if is_hoisted(file, l, p) {
+            if is_hoisted(t) {
                 return b;
             }
-            gen_statement(file, l, p, b, list, scratch, lp)
+            gen_statement(t, b, list, scratch, lp)
         }
         Each::Conditional => {
-            let t = node_at(file, l, p);
-            let root = t.root;
-            let e = element_of(root);
+            let e = t.element();
             match e {
                 Element::Case => {
                     let b1 = push_if(list, b, cases);
-                    let b2 = gen_expr(file, l, p, b1, list, scratch, false);
+                    let b2 = gen_expr(t, b1, list, scratch, false);
                     let b3 = action(list, b2, Op::StrictEquals);
                     branch(list, b3, Label(first + seen))
                 }
-                Element::Default => b,
-                Element::Statement => b,
+                Element::Default | Element::Statement => b,
             }
         }
         Each::Element => {
-            let t = node_at(file, l, p);
-            let root = t.root;
-            let e = element_of(root);
+            let e = t.element();
             match e {
                 Element::Case => mark_label(list, b, Label(first + seen)),
                 Element::Default => mark_default(list, b, Label(default)),
@@ -192,7 +180,7 @@ fn one(
                     if seen == 0 {
                         return b;
                     }
-                    gen_statement(file, l, p, b, list, scratch, lp)
+                    gen_statement(t, b, list, scratch, lp)
                 }
             }
         }
@@ -201,108 +189,84 @@ fn one(
 
 #[cycle(ring)]
 fn gen_statement(
-    file: &[u8],
-    l: Layout,
-    p: Part,
+    t: &Trees,
     b: CodeBuilder,
     list: &mut [u32],
     scratch: &mut [usize],
     lp: Loop,
 ) -> CodeBuilder
-    requires { Walk file.now l p b list.old (length scratch.old) }
-    ensures { Does file.now ((kid_at file.now p 0).gen_statement (loop_of lp)) b list.old tt result list.new }
+    requires { Walk t.now b list.old (length scratch.old) }
+    ensures { Does (file_of t.now) ((kid_of t.now 0).gen_statement (loop_of lp)) b list.old tt result list.new }
 {
     if b.refused != 0 {
         return b;
     }
-    let t = node_at(file, l, p);
-    let root = t.root;
-    let kids = t.children;
-    let break_to = lp.exit;
-    let continue_to = lp.next;
+    let node = t.node();
+    let root = node.root;
+    let kids = node.children;
     match root {
         Record::Statement(kind) => match kind {
             StatementKind::Declare(name) => {
-                let t1 = node_at(file, l, kids);
-                let value = t1.root;
-                let b1 = push_string(file, l, list, b, name);
-                if is_present(value) {
-                    let b2 = gen_expr(file, l, kids, b1, list, scratch, false);
+                let value = kids.node();
+                let b1 = push_string(t.script.bytes, t.script.layout, list, b, name);
+                if is_present(value.root) {
+                    let b2 = gen_expr(&kids, b1, list, scratch, false);
                     return action(list, b2, Op::DefineLocal);
                 }
                 action(list, b1, Op::DefineLocal2)
             }
-            StatementKind::Return => exit(file, l, kids, b, list, scratch, Op::Return),
-            StatementKind::Throw => exit(file, l, kids, b, list, scratch, Op::Throw),
+            StatementKind::Return => exit(&kids, b, list, scratch, Op::Return),
+            StatementKind::Throw => exit(&kids, b, list, scratch, Op::Throw),
             StatementKind::Expr => {
-                let b1 = gen_expr(file, l, kids, b, list, scratch, true);
+                let b1 = gen_expr(&kids, b, list, scratch, true);
                 truncate_stack(list, b1, b.size)
             }
             StatementKind::Block => {
-                let body = list_at(file, l, kids, 0);
-                let inner = innermost(file, l, body, lp);
-                let b1 = gen_statements(file, l, inner, b, list, scratch, lp);
+                let body = kids.list(0);
+                let inner = innermost(&body, lp);
+                let b1 = gen_statements(&inner, b, list, scratch, lp);
                 truncate_stack(list, b1, b.size)
             }
-            StatementKind::ForIn(condition) => gen_for_loop(
-                file, l, kids, b, list, scratch, condition,
-            ),
-            StatementKind::While => gen_while_loop(file, l, kids, b, list, scratch),
-            StatementKind::If => gen_if(file, l, kids, b, list, scratch, lp),
-            StatementKind::Break => jump_to(list, b, break_to),
-            StatementKind::Continue => jump_to(list, b, continue_to),
-            StatementKind::Switch => gen_switch(file, l, kids, b, list, scratch, lp),
+            StatementKind::ForIn(condition) => gen_for_loop(&kids, b, list, scratch, condition),
+            StatementKind::While => gen_while_loop(&kids, b, list, scratch),
+            StatementKind::If => gen_if(&kids, b, list, scratch, lp),
+            StatementKind::Break => jump_to(list, b, lp.exit),
+            StatementKind::Continue => jump_to(list, b, lp.next),
+            StatementKind::Switch => gen_switch(&kids, b, list, scratch, lp),
         },
-        Record::Expr(kind) => b,
-        Record::Absent => b,
-        Record::List(n) => b,
-        Record::ObjectField(key) => b,
-        Record::Parameter { name, register } => b,
-        Record::Case => b,
-        Record::Default => b,
-        Record::Other => b,
+        _ => b,
     }
 }
 
 // Return and Throw.
 #[cycle(ring)]
-fn exit(
-    file: &[u8],
-    l: Layout,
-    p: Part,
-    b: CodeBuilder,
-    list: &mut [u32],
-    scratch: &mut [usize],
-    o: Op,
-) -> CodeBuilder
-    requires { Walk file.now l p b list.old (length scratch.old) }
-    ensures { Does file.now (statement.gen_values (list_at file.now p 0) o) b list.old tt result list.new }
+fn exit(t: &Trees, b: CodeBuilder, list: &mut [u32], scratch: &mut [usize], o: Op) -> CodeBuilder
+    requires { Walk t.now b list.old (length scratch.old) }
+    ensures { Does (file_of t.now) (statement.gen_values (list_of t.now 0) o) b list.old tt result list.new }
 {
-    let es = list_at(file, l, p, 0);
-    if es.n == 0 {
+    let es = t.list(0);
+    if es.is_empty() {
         let b1 = push(list, b, PushValue::Undefined);
         return action(list, b1, o);
     }
     let idle = no_loop();
-    let b1 = each(file, l, es, b, list, scratch, Each::Expr, idle, 0, 0);
+    let b1 = each(&es, b, list, scratch, Each::Expr, idle, 0, 0);
     action(list, b1, o)
 }
 
 #[cycle(ring)]
 fn gen_switch(
-    file: &[u8],
-    l: Layout,
-    p: Part,
+    t: &Trees,
     b: CodeBuilder,
     list: &mut [u32],
     scratch: &mut [usize],
     lp: Loop,
 ) -> CodeBuilder
-    requires { Walk file.now l p b list.old (length scratch.old) }
-    ensures { Does file.now (statement.gen_switch (loop_of lp) (kid_at file.now p 1) (list_at file.now p 0)) b list.old tt result list.new }
+    requires { Walk t.now b list.old (length scratch.old) }
+    ensures { Does (file_of t.now) (statement.gen_switch (loop_of lp) (kid_of t.now 1) (list_of t.now 0)) b list.old tt result list.new }
 {
-    let elements = list_at(file, l, p, 0);
-    let n = counts_of(file, l, elements);
+    let elements = t.list(0);
+    let n = elements.counts();
     let end = b.labels;
     let b1 = create_label(b);
     let first = b1.labels;
@@ -318,9 +282,7 @@ fn gen_switch(
     if n.cases == 0 {
         let b3 = jump(list, b2, Label(default));
         let b4 = each(
-            file,
-            l,
-            elements,
+            &elements,
             b3,
             list,
             scratch,
@@ -331,14 +293,12 @@ fn gen_switch(
         );
         return mark_label(list, b4, Label(end));
     }
-    let target = kid_at(file, l, p, 1);
-    let b3 = gen_expr(file, l, target, b2, list, scratch, false);
+    let target = t.kid(1);
+    let b3 = gen_expr(&target, b2, list, scratch, false);
     let b4 = store_register(list, b3, 0);
     let idle = no_loop();
     let b5 = each(
-        file,
-        l,
-        elements,
+        &elements,
         b4,
         list,
         scratch,
@@ -349,9 +309,7 @@ fn gen_switch(
     );
     let b6 = jump(list, b5, Label(default));
     let b7 = each(
-        file,
-        l,
-        elements,
+        &elements,
         b6,
         list,
         scratch,
@@ -364,28 +322,21 @@ fn gen_switch(
 }
 
 #[cycle(ring)]
-fn gen_while_loop(
-    file: &[u8],
-    l: Layout,
-    p: Part,
-    b: CodeBuilder,
-    list: &mut [u32],
-    scratch: &mut [usize],
-) -> CodeBuilder
-    requires { Walk file.now l p b list.old (length scratch.old) }
-    ensures { Does file.now (statement.gen_while_loop (kid_at file.now p 1) (kid_at file.now p 0)) b list.old tt result list.new }
+fn gen_while_loop(t: &Trees, b: CodeBuilder, list: &mut [u32], scratch: &mut [usize]) -> CodeBuilder
+    requires { Walk t.now b list.old (length scratch.old) }
+    ensures { Does (file_of t.now) (statement.gen_while_loop (kid_of t.now 1) (kid_of t.now 0)) b list.old tt result list.new }
 {
-    let condition = kid_at(file, l, p, 1);
+    let condition = t.kid(1);
     let start = b.labels;
     let b1 = create_label(b);
     let end = b1.labels;
     let b2 = create_label(b1);
     let b3 = mark_label(list, b2, Label(start));
-    let b4 = gen_expr(file, l, condition, b3, list, scratch, false);
+    let b4 = gen_expr(&condition, b3, list, scratch, false);
     let b5 = action(list, b4, Op::Not);
     let b6 = branch(list, b5, Label(end));
     let inner = loop_to(end, start);
-    let b7 = gen_statement(file, l, p, b6, list, scratch, inner);
+    let b7 = gen_statement(t, b6, list, scratch, inner);
     let b8 = jump(list, b7, Label(start));
     mark_label(list, b8, Label(end))
 }
@@ -393,17 +344,15 @@ fn gen_while_loop(
 // A Break in `initialize` jumps to the end of the loop. What is absent generates nothing.
 #[cycle(ring)]
 fn gen_for_loop(
-    file: &[u8],
-    l: Layout,
-    p: Part,
+    t: &Trees,
     b: CodeBuilder,
     list: &mut [u32],
     scratch: &mut [usize],
     condition: ForCondition,
 ) -> CodeBuilder
-    requires walk { Walk file.now l p b list.old (length scratch.old) }
-    requires t { T (condition_named file.now condition) }
-    ensures { Does file.now (statement.gen_for_loop (condition_over (string_at file.now (layout_of file.now)) condition) (meanings_at file.now p)) b list.old tt result list.new }
+    requires walk { Walk t.now b list.old (length scratch.old) }
+    requires named { T (condition_named (file_of t.now) condition) }
+    ensures { Does (file_of t.now) (statement.gen_for_loop (condition_over (string_at (file_of t.now) (layout_of (file_of t.now))) condition) (meanings_of t.now)) b list.old tt result list.new }
 {
     let end = b.labels;
     let b1 = create_label(b);
@@ -412,43 +361,32 @@ fn gen_for_loop(
     let inner = loop_to(end, next);
     match condition {
         ForCondition::Enumerate(target) => {
-            let object = kid_at(file, l, p, 1);
-            let mut cur = gen_expr(file, l, object, b2, list, scratch, false);
+            let object = t.kid(1);
+            let mut cur = gen_expr(&object, b2, list, scratch, false);
             cur = action(list, cur, Op::Enumerate2);
             cur = mark_label(list, cur, Label(next));
             cur = store_register(list, cur, 0);
             cur = push(list, cur, PushValue::Null);
             cur = action(list, cur, Op::Equals2);
             cur = branch(list, cur, Label(end));
-            cur = gen_target(file, l, list, cur, target);
-            cur = gen_statement(file, l, p, cur, list, scratch, inner);
+            cur = gen_target(&t.script, list, cur, target);
+            cur = gen_statement(t, cur, list, scratch, inner);
             cur = jump(list, cur, Label(next));
             cur = truncate_stack(list, cur, b.size);
             mark_label(list, cur, Label(end))
         }
         ForCondition::Classic => {
-            let initialize = kid_at(file, l, p, 3);
-            let conditions = list_at(file, l, p, 2);
-            let update = list_at(file, l, p, 1);
-            let b3 = gen_statement(file, l, initialize, b2, list, scratch, inner);
+            let initialize = t.kid(3);
+            let conditions = t.list(2);
+            let update = t.list(1);
+            let b3 = gen_statement(&initialize, b2, list, scratch, inner);
             let start = b3.labels;
             let mut cur = create_label(b3);
             cur = mark_label(list, cur, Label(start));
-            cur = ends(file, l, conditions, cur, list, scratch, end);
-            cur = gen_statement(file, l, p, cur, list, scratch, inner);
+            cur = ends(&conditions, cur, list, scratch, end);
+            cur = gen_statement(t, cur, list, scratch, inner);
             cur = mark_label(list, cur, Label(next));
-            cur = each(
-                file,
-                l,
-                update,
-                cur,
-                list,
-                scratch,
-                Each::Discarded,
-                inner,
-                0,
-                0,
-            );
+            cur = each(&update, cur, list, scratch, Each::Discarded, inner, 0, 0);
             cur = jump(list, cur, Label(start));
             cur = truncate_stack(list, cur, b.size);
             mark_label(list, cur, Label(end))
@@ -458,141 +396,116 @@ fn gen_for_loop(
 
 // The last condition decides.
 #[cycle(ring)]
-fn ends(
-    file: &[u8],
-    l: Layout,
-    p: Part,
-    b: CodeBuilder,
-    list: &mut [u32],
-    scratch: &mut [usize],
-    end: u32,
-) -> CodeBuilder
-    requires { Walk file.now l p b list.old (length scratch.old) }
-    ensures { Does file.now (statement.gen_condition end (meanings_at file.now p)) b list.old tt result list.new }
+fn ends(t: &Trees, b: CodeBuilder, list: &mut [u32], scratch: &mut [usize], end: u32) -> CodeBuilder
+    requires { Walk t.now b list.old (length scratch.old) }
+    ensures { Does (file_of t.now) (statement.gen_condition end (meanings_of t.now)) b list.old tt result list.new }
 {
-    if p.n == 0 {
+    if t.is_empty() {
         return b;
     }
-    let t = node_at(file, l, p);
-    let before = t.before;
+    let before = t.rest();
     let idle = no_loop();
-    let b1 = each(
-        file,
-        l,
-        before,
-        b,
-        list,
-        scratch,
-        Each::Discarded,
-        idle,
-        0,
-        0,
-    );
-    let b2 = gen_expr(file, l, p, b1, list, scratch, false);
+    let b1 = each(&before, b, list, scratch, Each::Discarded, idle, 0, 0);
+    let b2 = gen_expr(t, b1, list, scratch, false);
     let b3 = action(list, b2, Op::Not);
     branch(list, b3, Label(end))
 }
 
 #[cycle(ring)]
 fn gen_if(
-    file: &[u8],
-    l: Layout,
-    p: Part,
+    t: &Trees,
     b: CodeBuilder,
     list: &mut [u32],
     scratch: &mut [usize],
     lp: Loop,
 ) -> CodeBuilder
-    requires { Walk file.now l p b list.old (length scratch.old) }
-    ensures { Does file.now (statement.gen_if (loop_of lp) (kid_at file.now p 2) (kid_at file.now p 1) (kid_at file.now p 0)) b list.old tt result list.new }
+    requires { Walk t.now b list.old (length scratch.old) }
+    ensures { Does (file_of t.now) (statement.gen_if (loop_of lp) (kid_of t.now 2) (kid_of t.now 1) (kid_of t.now 0)) b list.old tt result list.new }
 {
-    let condition = kid_at(file, l, p, 2);
-    let yes = kid_at(file, l, p, 1);
-    let t = node_at(file, l, p);
-    let root = t.root;
+    let condition = t.kid(2);
+    let yes = t.kid(1);
+    let node = t.node();
     let end = b.labels;
     let b1 = create_label(b);
-    let b2 = gen_expr(file, l, condition, b1, list, scratch, false);
+    let b2 = gen_expr(&condition, b1, list, scratch, false);
     let b3 = action(list, b2, Op::Not);
-    if is_present(root) {
+    if is_present(node.root) {
         let no = b3.labels;
         let b4 = create_label(b3);
         let b5 = branch(list, b4, Label(no));
-        let b6 = gen_statement(file, l, yes, b5, list, scratch, lp);
+        let b6 = gen_statement(&yes, b5, list, scratch, lp);
         let b7 = jump(list, b6, Label(end));
         let b8 = mark_label(list, b7, Label(no));
-        let b9 = gen_statement(file, l, p, b8, list, scratch, lp);
+        let b9 = gen_statement(t, b8, list, scratch, lp);
         return mark_label(list, b9, Label(end));
     }
     let b4 = branch(list, b3, Label(end));
-    let b5 = gen_statement(file, l, yes, b4, list, scratch, lp);
+    let b5 = gen_statement(&yes, b4, list, scratch, lp);
     mark_label(list, b5, Label(end))
 }
 
 #[cycle(ring)]
 fn gen_expr(
-    file: &[u8],
-    l: Layout,
-    p: Part,
+    t: &Trees,
     b: CodeBuilder,
     list: &mut [u32],
     scratch: &mut [usize],
     discard: bool,
 ) -> CodeBuilder
-    requires { Walk file.now l p b list.old (length scratch.old) }
-    ensures { Does file.now ((kid_at file.now p 0).gen_expr discard) b list.old tt result list.new }
+    requires { Walk t.now b list.old (length scratch.old) }
+    ensures { Does (file_of t.now) ((kid_of t.now 0).gen_expr discard) b list.old tt result list.new }
 {
     if b.refused != 0 {
         return b;
     }
-    let t = node_at(file, l, p);
-    let root = t.root;
-    let kids = t.children;
+    let node = t.node();
+    let root = node.root;
+    let kids = node.children;
     match root {
         Record::Expr(kind) => match kind {
-            ExprKind::Constant(c) => read_constant(file, l, list, b, c),
+            ExprKind::Constant(c) => read_constant(&t.script, list, b, c),
             ExprKind::Simple(k) => {
                 let o = action_of(k);
                 let idle = no_loop();
-                let b1 = each(file, l, kids, b, list, scratch, Each::Expr, idle, 0, 0);
+                let b1 = each(&kids, b, list, scratch, Each::Expr, idle, 0, 0);
                 action(list, b1, o)
             }
-            ExprKind::Binary(o) => gen_binary_op(file, l, kids, b, list, scratch, discard, o),
-            ExprKind::Unary(o) => gen_unary_op(file, l, kids, b, list, scratch, discard, o),
-            ExprKind::Call => gen_call(file, l, kids, b, list, scratch, false),
-            ExprKind::New => gen_call(file, l, kids, b, list, scratch, true),
+            ExprKind::Binary(o) => gen_binary_op(&kids, b, list, scratch, discard, o),
+            ExprKind::Unary(o) => gen_unary_op(&kids, b, list, scratch, discard, o),
+            ExprKind::Call => gen_call(&kids, b, list, scratch, false),
+            ExprKind::New => gen_call(&kids, b, list, scratch, true),
             ExprKind::DuplicateMovieClip => {
-                let source = kid_at(file, l, kids, 2);
-                let target = kid_at(file, l, kids, 1);
-                let b1 = gen_expr(file, l, source, b, list, scratch, false);
-                let b2 = gen_expr(file, l, target, b1, list, scratch, false);
+                let source = kids.kid(2);
+                let target = kids.kid(1);
+                let b1 = gen_expr(&source, b, list, scratch, false);
+                let b2 = gen_expr(&target, b1, list, scratch, false);
                 let b3 = push(list, b2, PushValue::Integer(16384));
-                let b4 = gen_expr(file, l, kids, b3, list, scratch, false);
+                let b4 = gen_expr(&kids, b3, list, scratch, false);
                 let b5 = action(list, b4, Op::Add2);
                 action(list, b5, Op::CloneSprite)
             }
-            ExprKind::Ternary => gen_ternary(file, l, kids, b, list, scratch),
+            ExprKind::Ternary => gen_ternary(&kids, b, list, scratch),
             ExprKind::InitObject => {
-                let es = list_at(file, l, kids, 0);
-                let n = width_of(file, l, es);
+                let es = kids.list(0);
+                let n = es.width();
                 let idle = no_loop();
-                let b1 = each(file, l, es, b, list, scratch, Each::Field, idle, 0, 0);
+                let b1 = each(&es, b, list, scratch, Each::Field, idle, 0, 0);
                 let b2 = push_count(list, b1, n);
                 action_down(list, b2, Op::InitObject, n + n)
             }
             ExprKind::InitArray => {
-                let es = list_at(file, l, kids, 0);
-                let n = width_of(file, l, es);
-                let b1 = args(file, l, es, b, list, scratch, n);
+                let es = kids.list(0);
+                let n = es.width();
+                let b1 = args(&es, b, list, scratch, n);
                 action_down(list, b1, Op::InitArray, n)
             }
             ExprKind::Field => {
                 let idle = no_loop();
-                let b1 = each(file, l, kids, b, list, scratch, Each::Expr, idle, 0, 0);
+                let b1 = each(&kids, b, list, scratch, Each::Expr, idle, 0, 0);
                 action(list, b1, Op::GetMember)
             }
             ExprKind::Delete => {
-                let a = for_expr(file, l, kids, b, list, scratch);
+                let a = for_expr(&kids, b, list, scratch);
                 let b1 = a.b;
                 let access = a.access;
                 delete(list, b1, access)
@@ -603,46 +516,33 @@ fn gen_expr(
                 registers,
                 marks,
             } => {
-                let up = leaves_value(file, l, name);
-                gen_function(file, l, kids, b, list, scratch, t.number, up)
+                let up = leaves_value(&t.script, name);
+                gen_function(&kids, b, list, scratch, node.number, u32::from(up))
             }
-            ExprKind::GotoFrame(play) => goto(file, l, kids, b, list, scratch, play),
-            ExprKind::StartDrag(lock) => drag(file, l, kids, b, list, scratch, lock),
+            ExprKind::GotoFrame(play) => goto(&kids, b, list, scratch, play),
+            ExprKind::StartDrag(lock) => drag(&kids, b, list, scratch, lock),
             ExprKind::GetProperty(n) => {
-                let b1 = gen_expr(file, l, kids, b, list, scratch, false);
+                let b1 = gen_expr(&kids, b, list, scratch, false);
                 let b2 = push(list, b1, PushValue::Integer(n));
                 action(list, b2, Op::GetProperty)
             }
             ExprKind::SetProperty(n) => {
-                let target = kid_at(file, l, kids, 1);
-                let b1 = gen_expr(file, l, target, b, list, scratch, false);
+                let target = kids.kid(1);
+                let b1 = gen_expr(&target, b, list, scratch, false);
                 let b2 = push(list, b1, PushValue::Integer(n));
-                let b3 = gen_expr(file, l, kids, b2, list, scratch, false);
+                let b3 = gen_expr(&kids, b2, list, scratch, false);
                 action(list, b3, Op::SetProperty)
             }
         },
-        Record::Case => gen_expr(file, l, kids, b, list, scratch, discard),
-        Record::ObjectField(key) => gen_expr(file, l, kids, b, list, scratch, discard),
-        Record::Statement(kind) => b,
-        Record::Absent => b,
-        Record::List(n) => b,
-        Record::Parameter { name, register } => b,
-        Record::Default => b,
-        Record::Other => b,
+        Record::Case | Record::ObjectField(_) => gen_expr(&kids, b, list, scratch, discard),
+        _ => b,
     }
 }
 
 #[cycle(ring)]
-fn for_expr(
-    file: &[u8],
-    l: Layout,
-    p: Part,
-    b: CodeBuilder,
-    list: &mut [u32],
-    scratch: &mut [usize],
-) -> Accessed
-    requires { Walk file.now l p b list.old (length scratch.old) }
-    ensures { Does file.now (kid_at file.now p 0).for_expr b list.old (access_of result.access) result.b list.new }
+fn for_expr(t: &Trees, b: CodeBuilder, list: &mut [u32], scratch: &mut [usize]) -> Accessed
+    requires { Walk t.now b list.old (length scratch.old) }
+    ensures { Does (file_of t.now) (kid_of t.now 0).for_expr b list.old (access_of result.access) result.b list.new }
 {
     if b.refused != 0 {
         return Accessed {
@@ -650,29 +550,20 @@ fn for_expr(
             access: Access::Direct,
         };
     }
-    let t = node_at(file, l, p);
-    let root = t.root;
-    let kids = t.children;
-    let s = shape_of(root);
-    match s {
-        Shape::Constant(c) => for_constant(file, l, list, b, c),
+    let node = t.node();
+    let kids = node.children;
+    match Shape::from(node.root) {
+        Shape::Constant(c) => for_constant(t.script.bytes, t.script.layout, list, b, c),
         Shape::Field => {
             let idle = no_loop();
-            let b1 = each(file, l, kids, b, list, scratch, Each::Expr, idle, 0, 0);
+            let b1 = each(&kids, b, list, scratch, Each::Expr, idle, 0, 0);
             Accessed {
                 b: b1,
                 access: Access::Object,
             }
         }
-        Shape::NamedFunction => {
-            let b1 = gen_expr(file, l, p, b, list, scratch, false);
-            Accessed {
-                b: b1,
-                access: Access::Direct,
-            }
-        }
-        Shape::Other => {
-            let b1 = gen_expr(file, l, p, b, list, scratch, false);
+        Shape::NamedFunction | Shape::Other => {
+            let b1 = gen_expr(t, b, list, scratch, false);
             Accessed {
                 b: b1,
                 access: Access::Direct,
@@ -683,67 +574,64 @@ fn for_expr(
 
 #[cycle(ring)]
 fn gen_binary_op(
-    file: &[u8],
-    l: Layout,
-    p: Part,
+    t: &Trees,
     b: CodeBuilder,
     list: &mut [u32],
     scratch: &mut [usize],
     discard: bool,
     o: BinaryOperator,
 ) -> CodeBuilder
-    requires { Walk file.now l p b list.old (length scratch.old) }
-    ensures { Does file.now (statement.gen_binary_op (plan o) (meanings_at file.now p) discard) b list.old tt result list.new }
+    requires { Walk t.now b list.old (length scratch.old) }
+    ensures { Does (file_of t.now) (statement.gen_binary_op (plan o) (meanings_of t.now) discard) b list.old tt result list.new }
 {
-    let left = kid_at(file, l, p, 1);
-    let how = plan_of(o);
-    match how {
+    let left = t.kid(1);
+    match Plan::from(o) {
         Plan::Trivial(o) => {
             let idle = no_loop();
-            let b1 = each(file, l, p, b, list, scratch, Each::Expr, idle, 0, 0);
+            let b1 = each(t, b, list, scratch, Each::Expr, idle, 0, 0);
             action(list, b1, o)
         }
         Plan::TrivialNot(o) => {
             let idle = no_loop();
-            let b1 = each(file, l, p, b, list, scratch, Each::Expr, idle, 0, 0);
+            let b1 = each(t, b, list, scratch, Each::Expr, idle, 0, 0);
             let b2 = action(list, b1, o);
             action(list, b2, Op::Not)
         }
         Plan::TrivialAssign(o) => {
-            let a = for_expr(file, l, left, b, list, scratch);
+            let a = for_expr(&left, b, list, scratch);
             let access = a.access;
             let b1 = a.b;
             let idle = no_loop();
-            let b2 = each(file, l, p, b1, list, scratch, Each::Expr, idle, 0, 0);
+            let b2 = each(t, b1, list, scratch, Each::Expr, idle, 0, 0);
             let b3 = action(list, b2, o);
             assign_value(list, b3, discard, access)
         }
         Plan::Assign => {
-            let a = for_expr(file, l, left, b, list, scratch);
+            let a = for_expr(&left, b, list, scratch);
             let access = a.access;
             let b1 = a.b;
-            let b2 = gen_expr(file, l, p, b1, list, scratch, false);
+            let b2 = gen_expr(t, b1, list, scratch, false);
             assign_value(list, b2, discard, access)
         }
         Plan::LogicalAnd => {
             let end = b.labels;
             let b1 = create_label(b);
-            let b2 = gen_expr(file, l, left, b1, list, scratch, false);
+            let b2 = gen_expr(&left, b1, list, scratch, false);
             let b3 = action(list, b2, Op::PushDuplicate);
             let b4 = action(list, b3, Op::Not);
             let b5 = branch(list, b4, Label(end));
             let b6 = action(list, b5, Op::Pop);
-            let b7 = gen_expr(file, l, p, b6, list, scratch, false);
+            let b7 = gen_expr(t, b6, list, scratch, false);
             mark_label(list, b7, Label(end))
         }
         Plan::LogicalOr => {
             let end = b.labels;
             let b1 = create_label(b);
-            let b2 = gen_expr(file, l, left, b1, list, scratch, false);
+            let b2 = gen_expr(&left, b1, list, scratch, false);
             let b3 = action(list, b2, Op::PushDuplicate);
             let b4 = branch(list, b3, Label(end));
             let b5 = action(list, b4, Op::Pop);
-            let b6 = gen_expr(file, l, p, b5, list, scratch, false);
+            let b6 = gen_expr(t, b5, list, scratch, false);
             mark_label(list, b6, Label(end))
         }
     }
@@ -751,52 +639,46 @@ fn gen_binary_op(
 
 #[cycle(ring)]
 fn gen_unary_op(
-    file: &[u8],
-    l: Layout,
-    p: Part,
+    t: &Trees,
     b: CodeBuilder,
     list: &mut [u32],
     scratch: &mut [usize],
     discard: bool,
     o: UnaryOperator,
 ) -> CodeBuilder
-    requires { Walk file.now l p b list.old (length scratch.old) }
-    ensures { Does file.now (statement.gen_unary_op o (kid_at file.now p 0) discard) b list.old tt result list.new }
+    requires { Walk t.now b list.old (length scratch.old) }
+    ensures { Does (file_of t.now) (statement.gen_unary_op o (kid_of t.now 0) discard) b list.old tt result list.new }
 {
     match o {
         UnaryOperator::Sub => {
-            let t = node_at(file, l, p);
-            let root = t.root;
-            let c = literal_of(root);
-            match c {
-                Literal::Integer(n) => negate_integer(list, b, n),
-                Literal::Float(low, high) => negate_float(list, b, low, high),
-                Literal::String(s) => {
+            let node = t.node();
+            match literal_of(node.root) {
+                Some(Literal::Integer(n)) => negate_integer(list, b, n),
+                Some(Literal::Float(low, high)) => negate_float(list, b, low, high),
+                Some(Literal::String(_)) => {
                     let b1 = push(list, b, PushValue::Integer(0));
-                    let b2 = gen_expr(file, l, p, b1, list, scratch, false);
+                    let b2 = gen_expr(t, b1, list, scratch, false);
                     action(list, b2, Op::Subtract)
                 }
-                Literal::NoLiteral => {
+                None => {
                     let b1 = push(list, b, PushValue::Integer(0));
-                    let b2 = gen_expr(file, l, p, b1, list, scratch, false);
+                    let b2 = gen_expr(t, b1, list, scratch, false);
                     action(list, b2, Op::Subtract)
                 }
             }
         }
-        UnaryOperator::Add => gen_expr(file, l, p, b, list, scratch, discard),
+        UnaryOperator::Add => gen_expr(t, b, list, scratch, discard),
         UnaryOperator::BitNot => {
-            let b1 = gen_expr(file, l, p, b, list, scratch, false);
+            let b1 = gen_expr(t, b, list, scratch, false);
             let b2 = push(list, b1, PushValue::Float(0xffe0_0000, 0x41ef_ffff));
             action(list, b2, Op::BitXor)
         }
         UnaryOperator::LogicalNot => {
-            let b1 = gen_expr(file, l, p, b, list, scratch, false);
+            let b1 = gen_expr(t, b, list, scratch, false);
             action(list, b1, Op::Not)
         }
         UnaryOperator::Increment(affix) => adjust(
-            file,
-            l,
-            p,
+            t,
             b,
             list,
             scratch,
@@ -805,9 +687,7 @@ fn gen_unary_op(
             discard,
         ),
         UnaryOperator::Decrement(affix) => adjust(
-            file,
-            l,
-            p,
+            t,
             b,
             list,
             scratch,
@@ -821,9 +701,7 @@ fn gen_unary_op(
 // A postfix operator leaves the old value, and the rest is as if its value were discarded; a prefix operator leaves the new one.
 #[cycle(ring)]
 fn adjust(
-    file: &[u8],
-    l: Layout,
-    p: Part,
+    t: &Trees,
     b: CodeBuilder,
     list: &mut [u32],
     scratch: &mut [usize],
@@ -831,20 +709,20 @@ fn adjust(
     affix: Affix,
     discard: bool,
 ) -> CodeBuilder
-    requires { Walk file.now l p b list.old (length scratch.old) }
-    ensures { Does file.now (statement.adjust_in_place (kid_at file.now p 0) o affix discard) b list.old tt result list.new }
+    requires { Walk t.now b list.old (length scratch.old) }
+    ensures { Does (file_of t.now) (statement.adjust_in_place (kid_of t.now 0) o affix discard) b list.old tt result list.new }
 {
     if keeps_old(affix, discard) {
-        let old = for_expr(file, l, p, b, list, scratch);
+        let old = for_expr(t, b, list, scratch);
         let b1 = old.b;
         let before = old.access;
         let b2 = get_value(list, b1, before);
-        return adjust(file, l, p, b2, list, scratch, o, affix, true);
+        return adjust(t, b2, list, scratch, o, affix, true);
     }
     let alone = leaves_none(affix, discard);
-    let a = for_expr(file, l, p, b, list, scratch);
+    let a = for_expr(t, b, list, scratch);
     let b1 = a.b;
-    let again = for_expr(file, l, p, b1, list, scratch);
+    let again = for_expr(t, b1, list, scratch);
     let b2 = again.b;
     let access = again.access;
     let b3 = get_value(list, b2, access);
@@ -854,29 +732,22 @@ fn adjust(
 
 // The no branch comes first.
 #[cycle(ring)]
-fn gen_ternary(
-    file: &[u8],
-    l: Layout,
-    p: Part,
-    b: CodeBuilder,
-    list: &mut [u32],
-    scratch: &mut [usize],
-) -> CodeBuilder
-    requires { Walk file.now l p b list.old (length scratch.old) }
-    ensures { Does file.now (statement.gen_ternary (kid_at file.now p 2) (kid_at file.now p 1) (kid_at file.now p 0)) b list.old tt result list.new }
+fn gen_ternary(t: &Trees, b: CodeBuilder, list: &mut [u32], scratch: &mut [usize]) -> CodeBuilder
+    requires { Walk t.now b list.old (length scratch.old) }
+    ensures { Does (file_of t.now) (statement.gen_ternary (kid_of t.now 2) (kid_of t.now 1) (kid_of t.now 0)) b list.old tt result list.new }
 {
-    let condition = kid_at(file, l, p, 2);
-    let yes = kid_at(file, l, p, 1);
+    let condition = t.kid(2);
+    let yes = t.kid(1);
     let end = b.labels;
     let b1 = create_label(b);
     let label = b1.labels;
     let b2 = create_label(b1);
-    let b3 = gen_expr(file, l, condition, b2, list, scratch, false);
+    let b3 = gen_expr(&condition, b2, list, scratch, false);
     let b4 = branch(list, b3, Label(label));
-    let b5 = gen_expr(file, l, p, b4, list, scratch, false);
+    let b5 = gen_expr(t, b4, list, scratch, false);
     let b6 = jump(list, b5, Label(end));
     let b7 = mark_label(list, b6, Label(label));
-    let b8 = gen_expr(file, l, yes, b7, list, scratch, false);
+    let b8 = gen_expr(&yes, b7, list, scratch, false);
     let b9 = mark_label(list, b8, Label(end));
     assume_stack_delta(b9, 1)
 }
@@ -884,22 +755,20 @@ fn gen_ternary(
 // `gen_call`, and `gen_new`.
 #[cycle(ring)]
 fn gen_call(
-    file: &[u8],
-    l: Layout,
-    p: Part,
+    t: &Trees,
     b: CodeBuilder,
     list: &mut [u32],
     scratch: &mut [usize],
     new: bool,
 ) -> CodeBuilder
-    requires { Walk file.now l p b list.old (length scratch.old) }
-    ensures { Does file.now (call_of new (kid_at file.now p 1) (list_at file.now p 0)) b list.old tt result list.new }
+    requires { Walk t.now b list.old (length scratch.old) }
+    ensures { Does (file_of t.now) (call_of new (kid_of t.now 1) (list_of t.now 0)) b list.old tt result list.new }
 {
-    let name = kid_at(file, l, p, 1);
-    let es = list_at(file, l, p, 0);
-    let n = width_of(file, l, es);
-    let b1 = args(file, l, es, b, list, scratch, n);
-    let a = for_expr(file, l, name, b1, list, scratch);
+    let name = t.kid(1);
+    let es = t.list(0);
+    let n = es.width();
+    let b1 = args(&es, b, list, scratch, n);
+    let a = for_expr(&name, b1, list, scratch);
     let b2 = a.b;
     let access = a.access;
     if new {
@@ -910,65 +779,52 @@ fn gen_call(
 
 // Arguments run from the last to the first, and then their count.
 #[cycle(ring)]
-fn args(
-    file: &[u8],
-    l: Layout,
-    p: Part,
-    b: CodeBuilder,
-    list: &mut [u32],
-    scratch: &mut [usize],
-    n: u32,
-) -> CodeBuilder
-    requires walk { Walk file.now l p b list.old (length scratch.old) }
-    requires n_value { n ≡ width (trees file.now p) }
-    ensures { Does file.now (statement.gen_arguments (meanings_at file.now p)) b list.old tt result list.new }
+fn args(t: &Trees, b: CodeBuilder, list: &mut [u32], scratch: &mut [usize], n: u32) -> CodeBuilder
+    requires walk { Walk t.now b list.old (length scratch.old) }
+    requires n_value { n ≡ width (trees_of t.now) }
+    ensures { Does (file_of t.now) (statement.gen_arguments (meanings_of t.now)) b list.old tt result list.new }
 {
-    let constants = push_constants(file, l, p, list, b);
+    let constants = push_constants(t, list, b);
     let mut left = constants.left;
     let mut cur = constants.b;
-    while left.n != 0 {
+    while !left.is_empty() {
         if cur.refused != 0 {
             return cur;
         }
-        cur = gen_expr(file, l, left, cur, list, scratch, false);
-        let before = rest_of(file, l, left);
-        left = before;
+        cur = gen_expr(&left, cur, list, scratch, false);
+        left = left.rest();
     }
     push_count(list, cur, n)
 }
 
 #[cycle(ring)]
 fn goto(
-    file: &[u8],
-    l: Layout,
-    p: Part,
+    t: &Trees,
     b: CodeBuilder,
     list: &mut [u32],
     scratch: &mut [usize],
     play: bool,
 ) -> CodeBuilder
-    requires { Walk file.now l p b list.old (length scratch.old) }
-    ensures { Does file.now (statement.gen_goto_frame (kid_at file.now p 0) play (literal (shape_of (kid_at file.now p 0).rec))) b list.old tt result list.new }
+    requires { Walk t.now b list.old (length scratch.old) }
+    ensures { Does (file_of t.now) (statement.gen_goto_frame (kid_of t.now 0) play (literal (shape_of (kid_of t.now 0).rec))) b list.old tt result list.new }
 {
-    let t = node_at(file, l, p);
-    let root = t.root;
-    let c = literal_of(root);
-    match c {
-        Literal::String(s) => {
+    let node = t.node();
+    match literal_of(node.root) {
+        Some(Literal::String(s)) => {
             let b1 = goto_label(list, b, s);
             play_if(list, b1, play)
         }
-        Literal::Integer(n) => {
+        Some(Literal::Integer(n)) => {
             let frame = frame_of(n);
             let b1 = goto_frame(list, b, frame);
             play_if(list, b1, play)
         }
-        Literal::Float(low, high) => {
-            let b1 = gen_expr(file, l, p, b, list, scratch, false);
+        Some(Literal::Float(_, _)) => {
+            let b1 = gen_expr(t, b, list, scratch, false);
             goto_frame2(list, b1, play)
         }
-        Literal::NoLiteral => {
-            let b1 = gen_expr(file, l, p, b, list, scratch, false);
+        None => {
+            let b1 = gen_expr(t, b, list, scratch, false);
             goto_frame2(list, b1, play)
         }
     }
@@ -976,57 +832,53 @@ fn goto(
 
 #[cycle(ring)]
 fn drag(
-    file: &[u8],
-    l: Layout,
-    p: Part,
+    t: &Trees,
     b: CodeBuilder,
     list: &mut [u32],
     scratch: &mut [usize],
     lock: bool,
 ) -> CodeBuilder
-    requires { Walk file.now l p b list.old (length scratch.old) }
-    ensures { Does file.now (statement.gen_start_drag (kid_at file.now p 1) lock (list_at file.now p 0)) b list.old tt result list.new }
+    requires { Walk t.now b list.old (length scratch.old) }
+    ensures { Does (file_of t.now) (statement.gen_start_drag (kid_of t.now 1) lock (list_of t.now 0)) b list.old tt result list.new }
 {
-    let target = kid_at(file, l, p, 1);
-    let es = list_at(file, l, p, 0);
-    let bit = bit_of(lock);
-    if es.n == 0 {
+    let target = t.kid(1);
+    let es = t.list(0);
+    let bit = i32::from(lock);
+    if es.is_empty() {
         let b1 = push(list, b, PushValue::Integer(0));
         let b2 = push(list, b1, PushValue::Integer(bit));
-        let b3 = gen_expr(file, l, target, b2, list, scratch, false);
+        let b3 = gen_expr(&target, b2, list, scratch, false);
         return action_down(list, b3, Op::StartDrag, 3);
     }
     let idle = no_loop();
-    let b1 = each(file, l, es, b, list, scratch, Each::Expr, idle, 0, 0);
+    let b1 = each(&es, b, list, scratch, Each::Expr, idle, 0, 0);
     let b2 = push(list, b1, PushValue::Integer(1));
     let b3 = push(list, b2, PushValue::Integer(bit));
-    let b4 = gen_expr(file, l, target, b3, list, scratch, false);
+    let b4 = gen_expr(&target, b3, list, scratch, false);
     action_down(list, b4, Op::StartDrag, 7)
 }
 
 // A body starts with no label to break or continue to.
 #[cycle(ring)]
 fn gen_function(
-    file: &[u8],
-    l: Layout,
-    p: Part,
+    t: &Trees,
     b: CodeBuilder,
     list: &mut [u32],
     scratch: &mut [usize],
     number: usize,
     up: u32,
 ) -> CodeBuilder
-    requires walk { Walk file.now l p b list.old (length scratch.old) }
+    requires walk { Walk t.now b list.old (length scratch.old) }
     requires number_bound { number < 65536 }
     requires up_bound { up ≤ 1 }
-    ensures { T (names_function file.now number) → moved (define_delta (header_in file.now number)) b.size ≡ b.size + up → Does file.now (define_function (header_in file.now number) (statement.gen_statements statement.no_loop (list_at file.now p 0))) b list.old tt result list.new }
+    ensures { T (names_function (file_of t.now) number) → moved (define_delta (header_in (file_of t.now) number)) b.size ≡ b.size + up → Does (file_of t.now) (define_function (header_in (file_of t.now) number) (statement.gen_statements statement.no_loop (list_of t.now 0))) b list.old tt result list.new }
 {
-    let body = list_at(file, l, p, 0);
+    let body = t.list(0);
     let base = b.base;
     let size = b.size;
     let reference = word_of(number);
     let b1 = begin_function(b);
     let idle = no_loop();
-    let b2 = gen_statements(file, l, body, b1, list, scratch, idle);
+    let b2 = gen_statements(&body, b1, list, scratch, idle);
     end_function(list, b2, base, size, reference, up)
 }

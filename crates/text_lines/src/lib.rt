@@ -1,54 +1,80 @@
 #![tactic(auto)]
 
 // The text's lines and what their bytes are written as: two hex digits for a byte; `@PART*COUNT:` for a part and COUNT more bytes of its repetition.
-ghost use Rattle.std.specs.Prelude.{ℕ, ◌+◌, ◌<◌, ◌≤◌, ◌≡◌, length, get_or};
+ghost use Rattle.std.specs.Prelude.{◌<◌, ◌≤◌, ◌≡◌, ◌==◌, length, position, None, IfOk, IfSome, MatchOption};
+ghost use Rattle.std.specs.List.{before_first, after_first};
 ghost use Rattle.text_lines.specs.Text.{hex_value};
 
-// How far a line is decoded: the next character, the bytes so far, where the part to repeat starts, and whether all was well written.
-#[derive(Drop)]
-pub struct Place {
-    pub at: usize,
-    pub bytes: usize,
-    pub part: usize,
-    pub good: bool,
+use std::alloc::Global;
+use std::error::Error;
+use std::io::{Read, Write};
+use std::{fmt, io};
+
+// What a line lacks.
+#[derive(Clone, Copy, Debug, PartialEq, Eq)]
+pub enum BadLine {
+    NoBytes,
+    NotWellWritten,
 }
 
-// The value of a hex digit, 16 for any other character.
-fn digit(c: u8) -> u8
-    ensures value { result ≡ hex_value c }
-    ensures upper_bound { result ≤ 16 }
-{
-    if c < 48 {
-        return 16;
-    }
-    if c <= 57 {
-        return c - 48;
-    }
-    if c < 97 {
-        return 16;
-    }
-    if c <= 102 {
-        return c - 87;
-    }
-    16
-}
-
-// The index of the first `c` from `from` on, or the text's length where there is none.
-pub fn find(text: &[u8], from: usize, c: u8) -> usize
-    requires { from ≤ length text.now }
-    ensures from { from ≤ result }
-    ensures within { result ≤ length text.now }
-    ensures before { (k : ℕ) → k < result → from ≤ k → get_or text.now k 0 ≡ c → ⊥ }
-    ensures found { result < length text.now → get_or text.now result 0 ≡ c }
-{
-    let mut i = from;
-    while i < text.len() {
-        if text[i] == c {
-            return i;
+impl fmt::Display for BadLine {
+    fn fmt<W: fmt::Write>(&self, f: &mut fmt::Formatter<W>) -> fmt::Result {
+        match self {
+            BadLine::NoBytes => write!(f, "has no bytes"),
+            BadLine::NotWellWritten => write!(f, "is not well written"),
         }
-        i += 1;
     }
-    i
+}
+
+impl Error for BadLine {}
+
+// A text of so many bytes or more is not answered.
+const TEXT_END: usize = 2097152;
+
+// So many bytes stand for a line's.
+const ROOM: usize = 1048832;
+
+// A text on its way into `file`: what is left of it, the bytes so far, and where the part to repeat starts.
+#[derive(Drop)]
+struct Decoder<'a> {
+    rest: &'a [u8],
+    file: &'a mut [u8],
+    bytes: usize,
+    part: usize,
+    ghost part_le_bytes: { part ≤ bytes },
+    ghost bytes_in_bounds: { bytes ≤ length file.now },
+}
+
+// The value of a hex digit.
+fn digit(c: u8) -> Option<u8>
+    ensures { result ≡ hex_value c }
+{
+    match c {
+        b'0'..=b'9' => Some(c - b'0'),
+        b'a'..=b'f' => Some(c - b'a' + 10),
+        _ => None,
+    }
+}
+
+// The value of two hex digits.
+fn pair(high: u8, low: u8) -> Option<u8> {
+    Some(digit(high)? * 16 + digit(low)?)
+}
+
+// The index of the first `c`.
+pub fn find(text: &[u8], c: u8) -> Option<usize>
+    ensures { result ≡ position (λ b. b == c) text.now }
+{
+    text.iter().position(|b| *b == c)
+}
+
+// What stands before the first `c`, and what after it.
+pub fn split_once(text: &[u8], c: u8) -> Option<(&[u8], &[u8])>
+    ensures parts { MatchOption result (position (λ b. b == c) text.now ≡ None) (λ p. (p.0.now ≡ before_first (λ b. b == c) text.now) × (p.1.now ≡ after_first (λ b. b == c) text.now)) }
+    ensures shorter { IfSome result (λ p. length p.1.now < length text.now) }
+{
+    let at = find(text, c)?;
+    Some((&text[..at], &text[at + 1..]))
 }
 
 // The decimal number that a text starts with, as far as it stays below ten million.
@@ -56,169 +82,143 @@ fn number(text: &[u8]) -> usize
     ensures { result < 10000000 }
 {
     let mut n: usize = 0;
-    let mut i = 0;
-    while i < text.len() {
-        let d = digit(text[i]) as usize;
-        if 9 < d {
-            return n;
+    for c in text {
+        match char::from(*c).to_digit(10) {
+            Some(d) if n <= 999998 => n = n * 10 + d as usize,
+            _ => break,
         }
-        if 999998 < n {
-            return n;
-        }
-        n = n * 10 + d;
-        i += 1;
     }
     n
 }
 
-// Fills n bytes from `at` on, each a copy of the one that stands `unit` before it.
-fn repeat(file: &mut [u8], unit: usize, at: usize, n: usize)
-    requires unit_le_at { unit ≤ at }
-    requires n_in_bounds { at + n ≤ length file.old }
-    ensures { length file.new ≡ length file.old }
-{
-    let mut i = 0;
-    while i < n {
-        file[at + i] = file[at - unit + i];
-        i += 1;
+// Fills `to` with the part, over and over.
+fn repeat(part: &[u8], to: &mut [u8]) {
+    for (byte, again) in to.iter_mut().zip(part.iter().cycle()) {
+        *byte = *again;
     }
 }
 
-// What a line that is not well written leaves.
-fn bad(end: usize) -> Place
-    ensures at_value { result.at ≡ end }
-    ensures bytes_value { result.bytes ≡ 0 }
-    ensures part_value { result.part ≡ 0 }
-{
-    Place {
-        at: end,
-        bytes: 0,
-        part: 0,
-        good: false,
-    }
-}
+impl<'a> Decoder<'a> {
+    ghost use Rattle.std.specs.Prelude.{◌<◌, ◌≡◌, length};
+    ghost use Rattle.text_lines.specs.Decoding.{ReadsOn};
 
-// The value of two hex digits, 256 where one is none.
-fn pair(first: u8, second: u8) -> usize
-    ensures { result ≤ 256 }
-{
-    let high = digit(first);
-    let low = digit(second);
-    if 15 < high {
-        return 256;
-    }
-    if 15 < low {
-        return 256;
-    }
-    high as usize * 16 + low as usize
-}
-
-// Two hex digits are a byte.
-fn byte(text: &[u8], file: &mut [u8], p: Place) -> Place
-    requires at_in_bounds { p.at < length text.now }
-    requires part_le_bytes { p.part ≤ p.bytes }
-    requires bytes_in_bounds { p.bytes ≤ length file.old }
-    ensures at_lt_at { p.at < result.at }
-    ensures at_in_bounds_2 { result.at ≤ length text.now }
-    ensures part_le_bytes_2 { result.part ≤ result.bytes }
-    ensures bytes_in_bounds_2 { result.bytes ≤ length file.new }
-    ensures file_len_unchanged { length file.new ≡ length file.old }
-{
-    let at = p.at;
-    let n = p.bytes;
-    let part = p.part;
-    if text.len() - at < 2 {
-        return bad(text.len());
-    }
-    let v = pair(text[at], text[at + 1]);
-    if 255 < v {
-        return bad(text.len());
-    }
-    if n >= file.len() {
-        return bad(text.len());
-    }
-    file[n] = v as u8;
-    Place {
-        at: at + 2,
-        bytes: n + 1,
-        part: part,
-        good: true,
-    }
-}
-
-// `*COUNT:` repeats the part that `@` started, for COUNT more bytes.
-fn again(text: &[u8], file: &mut [u8], p: Place) -> Place
-    requires at_in_bounds { p.at < length text.now }
-    requires part_le_bytes { p.part ≤ p.bytes }
-    requires bytes_in_bounds { p.bytes ≤ length file.old }
-    ensures at_lt_at { p.at < result.at }
-    ensures at_in_bounds_2 { result.at ≤ length text.now }
-    ensures part_le_bytes_2 { result.part ≤ result.bytes }
-    ensures bytes_in_bounds_2 { result.bytes ≤ length file.new }
-    ensures file_len_unchanged { length file.new ≡ length file.old }
-{
-    let from = p.at + 1;
-    let at = p.bytes;
-    let unit = at - p.part;
-    let end = find(text, from, b':');
-    let n = number(&text[from..end]);
-    if unit == 0 {
-        return bad(text.len());
-    }
-    if end >= text.len() {
-        return bad(text.len());
-    }
-    if n > file.len() - at {
-        return bad(text.len());
-    }
-    repeat(file, unit, at, n);
-    Place {
-        at: end + 1,
-        bytes: at + n,
-        part: at + n,
-        good: true,
-    }
-}
-
-fn step(text: &[u8], file: &mut [u8], p: Place) -> Place
-    requires at_in_bounds { p.at < length text.now }
-    requires part_le_bytes { p.part ≤ p.bytes }
-    requires bytes_in_bounds { p.bytes ≤ length file.old }
-    ensures at_lt_at { p.at < result.at }
-    ensures at_in_bounds_2 { result.at ≤ length text.now }
-    ensures part_le_bytes_2 { result.part ≤ result.bytes }
-    ensures bytes_in_bounds_2 { result.bytes ≤ length file.new }
-    ensures file_len_unchanged { length file.new ≡ length file.old }
-{
-    let at = p.at;
-    let c = text[at];
-    if c == b'@' {
-        return Place {
-            at: at + 1,
-            bytes: p.bytes,
-            part: p.bytes,
-            good: true,
+    // Two hex digits are a byte.
+    fn byte(&mut self) -> Result<(), BadLine>
+        ensures { ReadsOn self.old self.new result }
+    {
+        let [high, low, rest @ ..] = self.rest else {
+            return Err(BadLine::NotWellWritten);
         };
+        let byte = pair(*high, *low).ok_or(BadLine::NotWellWritten)?;
+        if self.bytes >= self.file.len() {
+            return Err(BadLine::NotWellWritten);
+        }
+        self.file[self.bytes] = byte;
+        self.bytes += 1;
+        self.rest = rest;
+        Ok(())
     }
-    if c == b'*' {
-        return again(text, file, p);
+
+    // `*COUNT:` repeats the part that `@` started, for COUNT more bytes.
+    fn again(&mut self, text: &'a [u8]) -> Result<(), BadLine>
+        requires { length text.now < length self.old.rest.now }
+        ensures { ReadsOn self.old self.new result }
+    {
+        let (digits, rest) = split_once(text, b':').ok_or(BadLine::NotWellWritten)?;
+        let count = number(digits);
+        if self.part == self.bytes {
+            return Err(BadLine::NotWellWritten);
+        }
+        if count > self.file.len() - self.bytes {
+            return Err(BadLine::NotWellWritten);
+        }
+        let (before, after) = self.file.split_at_mut(self.bytes);
+        repeat(&before[self.part..], &mut after[..count]);
+        self.bytes += count;
+        self.part = self.bytes;
+        self.rest = rest;
+        Ok(())
     }
-    byte(text, file, p)
+
+    fn step(&mut self) -> Result<(), BadLine>
+        ensures { ReadsOn self.old self.new result }
+    {
+        match self.rest {
+            [b'@', rest @ ..] => {
+                self.part = self.bytes;
+                self.rest = rest;
+                Ok(())
+            }
+            [b'*', rest @ ..] => self.again(rest),
+            _ => self.byte(),
+        }
+    }
+
+    fn run(&mut self) -> Result<(), BadLine>
+        ensures { self.new.file.ghost_name ≡ self.old.file.ghost_name }
+    {
+        while !self.rest.is_empty() {
+            self.step()?;
+        }
+        Ok(())
+    }
 }
 
-// The bytes that a text stands for, at the start of `file`.
-pub fn decode(text: &[u8], file: &mut [u8]) -> Place
-    ensures bytes_in_bounds { result.bytes ≤ length file.new }
+// The bytes that a text stands for, at the start of `file`: how many they are.
+pub fn decode(text: &[u8], file: &mut [u8]) -> Result<usize, BadLine>
+    ensures bytes_in_bounds { IfOk result (λ bytes. bytes ≤ length file.new) }
     ensures file_len_unchanged { length file.new ≡ length file.old }
 {
-    let mut p = Place {
-        at: 0,
+    let mut decoder = Decoder {
+        rest: text,
+        file,
         bytes: 0,
         part: 0,
-        good: true,
     };
-    while p.at < text.len() {
-        p = step(text, file, p);
+    decoder.run()?;
+    Ok(decoder.bytes)
+}
+
+// A line's name, and how many bytes stand behind it; they come to stand at the start of `file`.
+fn read_line<'a>(line: &'a [u8], file: &mut [u8]) -> (&'a [u8], Result<usize, BadLine>)
+    ensures { IfOk result.1 (λ bytes. bytes ≤ length file.new) }
+{
+    match split_once(line, b' ') {
+        Some((name, text)) => (name, decode(text, file)),
+        None => (line, Err(BadLine::NoBytes)),
     }
-    p
+}
+
+// Answers each line of a text.
+fn answer_lines<W: Write, F: FnMut(&[u8], Result<&[u8], BadLine>, &mut W) -> io::Result<()>>(
+    text: &[u8],
+    file: &mut [u8],
+    out: &mut W,
+    mut answer: F,
+) -> io::Result<()>
+    requires { F.IsAlwaysCallable answer }
+{
+    for line in text.split_inclusive(|b| *b == b'\n') {
+        let line = line.strip_suffix(b"\n").unwrap_or(line);
+        let (name, bytes) = read_line(line, file);
+        answer(name, bytes.map(|n| &file[..n]), out)?;
+    }
+    Ok(())
+}
+
+// Answers each line `NAME BYTES` of the text that a reader gives.
+pub fn answer_text<
+    R: Read + Drop,
+    W: Write,
+    F: FnMut(&[u8], Result<&[u8], BadLine>, &mut W) -> io::Result<()>,
+>(alloc: Global, reader: R, out: &mut W, answer: F) -> io::Result<()>
+    requires { F.IsAlwaysCallable answer }
+{
+    let mut text = Vec::new(alloc);
+    reader.take(TEXT_END as u64).read_to_end(&mut text)?;
+    if text.len() == TEXT_END {
+        return writeln!(out, "the text is too long");
+    }
+    let mut file = vec![in alloc; 0u8; ROOM]?;
+    answer_lines(&text, &mut file, out, answer)
 }

@@ -17,7 +17,8 @@ use Rattle.script_records.specs.Layout.{Words, words_of, layout_of, has_trailer,
 use Rattle.decode.specs.Numbers.{words}
 use Rattle.decode.specs.Decode.{record_of, constant_of, condition_of, is_one, plain_of, statement_kinds, expr_kinds}
 use Rattle.script_records.proofs.Trees.{forest_more}
-use Rattle.script.specs.Forms.{statement, form_of, is_list, fits}
+use Rattle.script.specs.declared.forms.Class.TheVariants.{Statement as statement}
+use Rattle.script.specs.Forms.{form_of, is_list, fits}
 use Rattle.script.specs.Rules.{all_below, ends_hold, record_holds, root_holds, records_hold, rules_hold, parted, max_bytes, tree_in, check_of}
 use Rattle.script.specs.Resolve.{script_of}
 use Rattle.script.proofs.Written.{below_at, all_hold}

@@ -1,9 +1,9 @@
 -- Counting the trees of a part from the last to the first.
-use Prim.Native.Nat.{ℕ, zero, suc, ◌+◌, ◌≤◌, ◌<◌}
+use Prim.Native.Nat.{ℕ, suc, ◌+◌, ◌≤◌, ◌<◌}
 use mathlib.Core.Path.{◌≡◌, refl, sym, ap, ◌∙◌}
 use mathlib.Core.List.{List}
-use mathlib.Core.Bool.{cond}
-use lib.Dec.{eqb, eqb-suc-zero}
+use Rattle.std.specs.Prelude.{Option, None, Some, option_map}
+use Rattle.std.specs.Option.{option_or}
 use native.Mathlib.Omega.{arith}
 use Rattle.hir.specs.Hir.{Str, Rec}
 use Rattle.hir.specs.Tree.{Forest, more}
@@ -18,7 +18,7 @@ use Rattle.lowering.specs.Meaning.{width}
 use Rattle.tree.specs.declared.Element.{Element}
 use Rattle.tree.specs.declared.Element.TheVariants.{Case, Default, Statement}
 use Rattle.tree.specs.declared.Counts.{Counts}
-use Rattle.tree.specs.Trees.{meant, trees, rec_of, element_of, node_of, labelled, cases, after_default, from_default_of, counts_of}
+use Rattle.tree.specs.Trees.{meant, trees, rec_of, element_of, node_of, labelled, cases, from_default_of, counts_of}
 use Rattle.tree.specs.Count.{Few, with_tree}
 use Rattle.tree.specs.Within.{Within}
 use Rattle.tree.proofs.Nodes.{is_node, trees_more, trees_none}
@@ -36,49 +36,41 @@ element_is text kind.Case = refl
 element_is text kind.Default = refl
 element_is text kind.Other = refl
 
--- the last Default of trees in a row: among those counted after, with d labelled ones from it on, or among those before, with n
-abbrev default_of : (d n labels : ℕ) → ℕ
-default_of zero zero labels = zero
-default_of zero (suc n) labels = suc n + labels
-default_of (suc d) n labels = suc d
+-- the last Default of trees in a row: among those counted after, or among those before, from which on all labelled ones after count too
+abbrev default_of : (d n : Option ℕ) → (labels : ℕ) → Option ℕ
+default_of d n labels = option_or d (option_map (λ k. k + labels) n)
 
 -- the counts of trees with others after them that are counted
 abbrev onto : Counts → Forest Rec → Counts
 onto c f =
     record { trees = width f + c.trees; labels = labelled f + c.labels; cases = cases f + c.cases; from_default = default_of c.from_default (from_default_of f) c.labels }
 
-same_counts : {t u l m k j d e : ℕ} → t ≡ u → l ≡ m → k ≡ j → d ≡ e →
+same_counts : {t u l m k j : ℕ} {d e : Option ℕ} → t ≡ u → l ≡ m → k ≡ j → d ≡ e →
     ◌≡◌ {A = Counts} (record { trees = t; labels = l; cases = k; from_default = d }) (record { trees = u; labels = m; cases = j; from_default = e })
 same_counts p q r s = cc
 
-no_default : (d labels : ℕ) → default_of d 0 labels ≡ d
-no_default zero labels = refl
-no_default (suc d) labels = refl
+no_default : (d : Option ℕ) (labels : ℕ) → default_of d None labels ≡ d
+no_default None labels = refl
+no_default (Some d) labels = refl
 
-all_default : (n : ℕ) → default_of 0 n 0 ≡ n
-all_default zero = refl
-all_default (suc n) = omega arith
+all_default : (n : Option ℕ) → default_of None n 0 ≡ n
+all_default None = refl
+all_default (Some n) = ap Some (omega arith)
 
-some_default : (d n labels : ℕ) → 0 < d → default_of d n labels ≡ d
-some_default zero n labels h = absurd (omega arith)
-some_default (suc d) n labels h = refl
+case_default : (d n : Option ℕ) (labels : ℕ) → default_of d (option_map suc n) labels ≡ default_of d n (labels + 1)
+case_default None None labels = refl
+case_default None (Some n) labels = ap Some (omega arith)
+case_default (Some d) n labels = refl
 
-case_default : (d n labels : ℕ) → default_of d (after_default n) labels ≡ default_of d n (labels + 1)
-case_default zero zero labels = refl
-case_default zero (suc n) labels = omega arith
-case_default (suc d) n labels = refl
-
-one_default : (d n labels : ℕ) → default_of d 1 labels ≡ default_of (cond (eqb d 0) (labels + 1) d) n (labels + 1)
-one_default zero n labels =
-    let e : suc 0 + labels ≡ labels + 1 = omega arith in
-    e ∙ sym (some_default (labels + 1) n (labels + 1) (omega arith))
-one_default (suc d) n labels = rw eqb-suc-zero
+one_default : (d n : Option ℕ) (labels : ℕ) → default_of d (Some 1) labels ≡ default_of (option_or d (Some (labels + 1))) n (labels + 1)
+one_default None n labels = ap Some (omega arith)
+one_default (Some d) n labels = refl
 
 onto_none : (c : Counts) → onto c Forest.none ≡ c
 unfolding labelled cases from_default_of
 onto_none c = same_counts (omega arith) (omega arith) (omega arith) (no_default c.from_default c.labels)
 
-onto_start : (f : Forest Rec) → onto (record { trees = 0; labels = 0; cases = 0; from_default = 0 }) f ≡ counts_of f
+onto_start : (f : Forest Rec) → onto (record { trees = 0; labels = 0; cases = 0; from_default = None }) f ≡ counts_of f
 onto_start f = same_counts (omega arith) (omega arith) (omega arith) (all_default (from_default_of f))
 
 onto_more : (c : Counts) (before kids : Forest Rec) (r : Rec) (e : Element) → meaning.element r ≡ meant e → onto c (more before r kids) ≡ onto (with_tree e c) before
@@ -95,19 +87,16 @@ grown Statement c = (refl, omega arith, omega arith)
 -- the trees of p that are not in `left` are counted
 pub record Counted (F : List ℕ) (l : Layout) (p : Part) (found : Counts) (left : Part) : Type 0 where
   pub whole : onto found (trees F left) ≡ counts_of (trees F p)
-  pub within : Within F l left
   pub small : p.n < 65536
   pub trees : found.trees + left.n ≤ p.n
   pub labels : found.labels ≤ found.trees
   pub cases : found.cases ≤ found.trees
 
 module _ (F : List ℕ) (l : Layout) (p : Part) where
-  pub counted_start : Within F l p → Counted F l p (record { trees = 0; labels = 0; cases = 0; from_default = 0 }) p
-  counted_start w =
-      let a = w.inside in
-      let b = w.known in
-      let d = w.sound.few in
-      record { whole = onto_start (trees F p); within = w; small = omega arith; trees = omega arith; labels = omega arith; cases = omega arith }
+  pub counted_start : Within F l p → {none : Counts} → none.trees ≡ 0 → none.labels ≡ 0 → none.cases ≡ 0 → none.from_default ≡ None → Counted F l p none p
+  counted_start w {none} t m k d =
+      let e : none ≡ record { trees = 0; labels = 0; cases = 0; from_default = None } = same_counts t m k d in
+      rw e (record { whole = onto_start (trees F p); small = omega (arith, w.inside, w.known, w.sound.few); trees = omega arith; labels = omega arith; cases = omega arith })
 
   pub counted_done : {found : Counts} {left : Part} → Counted F l p found left → left.n ≡ 0 → found ≡ counts_of (trees F p)
   counted_done {found} {left} i h = sym (onto_none found) ∙ rw (trees_none F left h) at i.whole
@@ -116,51 +105,42 @@ module _ (F : List ℕ) (l : Layout) (p : Part) where
     pub counted_few : Few found
     counted_few = record { trees = omega arith; labels = omega arith; cases = omega arith }
 
-    module _ {rest : Part} (e : rest ≡ (node_of F l left).before) where
-      pub counted_less : rest.n < left.n
-      counted_less = let d = (is_node F l left i.within refl).apart in rw e (omega arith)
-
-      pub counted_next : {x : Element} → x ≡ element_of (node_of F l left).root → {more : Counts} → more ≡ with_tree x found → Counted F l p more rest
-      counted_next {x} q {more} s =
-          let r = node_of F l left in
-          let node = is_node F l left i.within refl in
-          let d = node.apart in
-          let g = grown x found in
-          let t : meaning.element (rec_of F r.root) ≡ meant x = rw q (element_is (string_at F (layout_of F)) r.root) in
-          rw (s, e)
-          (record {
-            whole = sym (onto_more found (trees F r.before) (trees F r.children) (rec_of F r.root) x t) ∙ ap (onto found) (sym (trees_more F l left node some_left)) ∙ i.whole;
-            within = node.rest_within;
-            small = i.small;
-            trees = omega arith;
-            labels = omega arith;
-            cases = omega arith;
-          })
+    pub counted_next : Within F l left → {rest : Part} → rest ≡ (node_of F l left).before → {x : Element} → x ≡ element_of (node_of F l left).root → {more : Counts} → more ≡ with_tree x found
+        → Counted F l p more rest
+    counted_next w {rest} e {x} q {more} s =
+        let r = node_of F l left in
+        let node = is_node F l left w refl in
+        let d = node.apart in
+        let g = grown x found in
+        let t : meaning.element (rec_of F r.root) ≡ meant x = rw q (element_is (string_at F (layout_of F)) r.root) in
+        rw (s, e)
+        (record {
+          whole = sym (onto_more found (trees F r.before) (trees F r.children) (rec_of F r.root) x t) ∙ ap (onto found) (sym (trees_more F l left node some_left)) ∙ i.whole;
+          small = i.small;
+          trees = omega arith;
+          labels = omega arith;
+          cases = omega arith;
+        })
 
 -- the trees of p that are not in `left`, by their number alone
 pub record Measured (F : List ℕ) (l : Layout) (p : Part) (count : ℕ) (left : Part) : Type 0 where
   pub whole : count + meaning.width (trees F left) ≡ meaning.width (trees F p)
-  pub within : Within F l left
   pub small : p.n < 65536
   pub fewer : count + left.n ≤ p.n
 
 pub measured_start : (F : List ℕ) (l : Layout) (p : Part) → Within F l p → Measured F l p 0 p
-measured_start F l p w = record { whole = omega arith; within = w; small = omega (arith, w.inside, w.known, w.sound.few); fewer = omega arith }
+measured_start F l p w = record { whole = omega arith; small = omega (arith, w.inside, w.known, w.sound.few); fewer = omega arith }
 
 module _ {F : List ℕ} {l : Layout} {p : Part} {count : ℕ} {left : Part} (i : Measured F l p count left) where
   pub measured_done : left.n ≡ 0 → count ≡ meaning.width (trees F p)
   measured_done z = let w = rw (trees_none F left z) at i.whole in omega (arith, w)
 
-  module _ (z : left.n ≡ 0 → ⊥) where
+  module _ (z : 0 < left.n) where
     pub measured_few : count + 1 < 65536
     measured_few = omega (arith, i.small, i.fewer)
 
-    module _ {rest : Part} (e : rest ≡ (node_of F l left).before) where
-      pub measured_less : rest.n < left.n
-      measured_less = rw e (omega (arith, (is_node F l left i.within refl).apart))
-
-      pub measured_next : Measured F l p (count + 1) rest
-      measured_next =
-          let g = is_node F l left i.within refl in
-          let w = rw (trees_more F l left g (omega arith)) at i.whole in
-          rw e (record { whole = omega (arith, w); within = g.rest_within; small = i.small; fewer = omega (arith, g.apart, i.fewer) })
+    pub measured_next : Within F l left → {rest : Part} → rest ≡ (node_of F l left).before → Measured F l p (count + 1) rest
+    measured_next v e =
+        let g = is_node F l left v refl in
+        let w = rw (trees_more F l left g z) at i.whole in
+        rw e (record { whole = omega (arith, w); small = i.small; fewer = omega (arith, g.apart, i.fewer) })

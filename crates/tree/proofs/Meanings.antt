@@ -1,8 +1,9 @@
 -- What the trees of a part mean, by the part's node, and how many trees there can be.
-use Prim.Native.Nat.{ℕ, zero, suc, ◌+◌, ◌≤◌}
+use Prim.Native.Nat.{ℕ, suc, ◌+◌, ◌≤◌}
 use mathlib.Core.Path.{◌≡◌, refl, ap, ◌∙◌}
 use mathlib.Core.List.{List, ◌∷◌, [], ◌++◌}
 use native.Mathlib.Omega.{arith}
+use Rattle.std.specs.Prelude.{Option, None, Some, IfSome}
 use Rattle.hir.specs.Hir.{Rec}
 use Rattle.hir.specs.Tree.{Forest, more, count}
 use Rattle.hir.proofs.Laws.{map_count}
@@ -30,7 +31,7 @@ unfolding meanings
 list_before n Forest.none = refl
 list_before n (more before r kids) = refl
 
-module _ (F : List ℕ) (l : Layout) (p : Part) {r : Node} (i : IsNode F l p r) where
+module _ (F : List ℕ) (l : Layout) (p : Part) {r : Node Part} (i : IsNode F l p r) where
   pub kid_zero : kid 0 (meanings (trees F p)) ≡ meaning (rec_of F r.root) (meanings (trees F r.children))
   kid_zero = kid_law 0 (trees F p) ∙ rw (i.root, i.kids)
 
@@ -58,11 +59,12 @@ one_label meaning.case = (omega arith, omega arith)
 one_label meaning.default = (omega arith, omega arith)
 one_label meaning.statement = (omega arith, omega arith)
 
-from_label : (e : meaning.Element) (n m : ℕ) → n ≤ m → from_default_at e n ≤ m + is_labelled e
-from_label meaning.case zero m h = omega arith
-from_label meaning.case (suc n) m h = omega arith
-from_label meaning.default n m h = omega arith
-from_label meaning.statement n m h = omega arith
+from_label : (e : meaning.Element) (o : Option ℕ) (m : ℕ) → IfSome o (λ k. k ≤ m) → IfSome (from_default_at e o) (λ k. k ≤ m + is_labelled e)
+from_label meaning.case None m h = h
+from_label meaning.case (Some k) m h = omega arith
+from_label meaning.default o m h = omega arith
+from_label meaning.statement None m h = h
+from_label meaning.statement (Some k) m h = omega arith
 
 pub labelled_width : (f : Forest Rec) → labelled f ≤ width f
 unfolding labelled
@@ -74,9 +76,9 @@ unfolding labelled cases
 cases_labelled Forest.none = omega arith
 cases_labelled (more before r kids) = let h = cases_labelled before in let k = one_label (meaning.element r) in omega arith
 
-pub default_labelled : (f : Forest Rec) → from_default_of f ≤ labelled f
+pub default_labelled : (f : Forest Rec) → IfSome (from_default_of f) (λ k. k ≤ labelled f)
 unfolding labelled from_default_of
-default_labelled Forest.none = omega arith
+default_labelled Forest.none = tt
 default_labelled (more before r kids) = from_label (meaning.element r) (from_default_of before) (labelled before) (default_labelled before)
 
 module _ (F : List ℕ) (p : Part) where
@@ -96,5 +98,5 @@ module _ (F : List ℕ) (p : Part) where
   pub cases_less : cases (trees F p) ≤ labelled (trees F p)
   cases_less = cases_labelled (trees F p)
 
-  pub default_less : from_default_of (trees F p) ≤ labelled (trees F p)
+  pub default_less : IfSome (from_default_of (trees F p)) (λ k. k ≤ labelled (trees F p))
   default_less = default_labelled (trees F p)

@@ -13,7 +13,6 @@ use Rattle.hir.specs.declared.ExprKind.TheVariants as expr
 use Rattle.hir.specs.declared.Record.{Record}
 use Rattle.hir.specs.declared.Record.TheVariants as kind
 use Rattle.script_records.specs.declared.layout.Layout.{Layout}
-use Rattle.script_records.specs.declared.layout.Row.{Row}
 use Rattle.script_records.specs.declared.part.Part.{Part}
 use Rattle.script_records.specs.declared.part.Tree.{Tree}
 use Rattle.script_records.specs.Layout.{words_of, layout_of, string_at, rows_of, row_in, HasRow, span_at}
@@ -32,13 +31,20 @@ use Rattle.tree.specs.declared.Node.{Node}
 use Rattle.tree.specs.Trees.{rows_in, trees, rec_of, made_node, no_node, node_of}
 use Rattle.tree.specs.Within.{Within, IsNode, live, record_named}
 
+-- a test whether trees are left
+pub no_trees : {n : ℕ} → true ≡ eqb n 0 → n ≡ 0
+no_trees {n} h = eqb-true n 0 (sym h)
+
+pub some_trees : {n : ℕ} → false ≡ eqb n 0 → 0 < n
+some_trees {n} h = omega (arith, eqb-false n 0 (sym h))
+
 module _ (F : List ℕ) (l : Layout) (p : Part) where
   pub node_none : p.n ≡ 0 → no_node p ≡ node_of F l p
   unfolding node_of
   node_none h = rw (eq-eqb p.n 0 h)
 
   pub node_made : (p.n ≡ 0 → ⊥) → {t : Tree} → t ≡ last_tree (rows_of F l) p → {root : Record} → root ≡ record_of (words_of t.row) →
-      ◌≡◌ {A = Node} (record { root = root; number = t.children.end; children = t.children; before = t.before }) (node_of F l p)
+      ◌≡◌ {A = Node Part} (record { root = root; number = t.children.end; children = t.children; before = t.before }) (node_of F l p)
   unfolding node_of
   node_made h e q = rw (ne_eqb p.n 0 h, q, e)
 
@@ -98,7 +104,7 @@ module _ (F : List ℕ) (l : Layout) (p : Part) (w : Within F l p) (some_left : 
   last_known : p.end - 1 < (layout_of F).count
   last_known = let a = w.inside in let b = w.known in omega arith
 
-  abbrev made : Node
+  abbrev made : Node Part
   made = made_node (last F p)
 
   kids_within : Within F l made.children
@@ -184,7 +190,7 @@ is_none F l p w h =
       function_header = λ n g m e. cc;
     }
 
-pub is_node : (F : List ℕ) (l : Layout) (p : Part) {r : Node} → Within F l p → r ≡ node_of F l p → IsNode F l p r
+pub is_node : (F : List ℕ) (l : Layout) (p : Part) {r : Node Part} → Within F l p → r ≡ node_of F l p → IsNode F l p r
 is_node F l p {r} w e = by (eqb p.n 0) refl
   where
     by : (t : Bool) → eqb p.n 0 ≡ t → IsNode F l p r
@@ -194,29 +200,29 @@ is_node F l p {r} w e = by (eqb p.n 0) refl
         let m : node_of F l p ≡ made_node (last F p) = rw w.layout (sym (node_made F (layout_of F) p h {t = last F p} refl refl)) in
         rw (e, m) (is_made F l p w (omega arith))
 
--- the trees before the last, by its size
-module _ (F : List ℕ) (l : Layout) (p : Part) (w : Within F l p) (h : p.n ≡ 0 → ⊥) {row : Row} (is : row ≡ row_in (rows_of F l) (p.end - 1)) where
-  same_size : row.size ≡ size F l p w (omega arith)
+-- the parts round the last tree, by its size
+module _ (F : List ℕ) (l : Layout) (p : Part) (w : Within F l p) (h : 0 < p.n) {s : ℕ} (is : s ≡ (row_in (rows_of F l) (p.end - 1)).size) where
+  same_size : s ≡ size F l p w h
   same_size = rw (is, w.layout)
 
-  pub size_most : row.size ≤ p.n
-  size_most = rw same_size (size_inside F l p w (omega arith))
+  pub size_most : s ≤ p.n
+  size_most = rw same_size (size_inside F l p w h)
 
-  pub span_is : span_at (rows_in F) p.end p.n ≡ row.size
-  span_is = span_size F l p w (omega arith) ∙ sym same_size
+  pub size_least : 1 ≤ s
+  size_least = rw same_size (size_some F l p w h)
 
-  pub rest_is : {s : ℕ} → row.size ≡ s → {r : Part} → r ≡ record { end = p.end - s; n = p.n - s } → r ≡ (node_of F l p).before
-  rest_is e q = let i = is_node F l p w refl in q ∙ rw (← e, ← span_is, ← i.end, ← i.n)
+  pub span_is : span_at (rows_in F) p.end p.n ≡ s
+  span_is = span_size F l p w h ∙ sym same_size
 
-  pub size_least : 1 ≤ row.size
-  size_least = rw same_size (size_some F l p w (omega arith))
+  pub rest_is : ◌≡◌ {A = Part} (record { end = p.end - s; n = p.n - s }) (node_of F l p).before
+  rest_is = let i = is_node F l p w refl in rw (← span_is, ← i.end, ← i.n)
 
-  pub children_are : ◌≡◌ {A = Part} (record { end = p.end - 1; n = row.size - 1 }) (node_of F l p).children
+  pub children_are : ◌≡◌ {A = Part} (record { end = p.end - 1; n = s - 1 }) (node_of F l p).children
   unfolding node_of last_tree
-  children_are = rw (ne_eqb p.n 0 h, ← span_is, w.layout)
+  children_are = rw (ne_eqb p.n 0 (λ e. omega arith), ← span_is, w.layout)
 
 -- the trees of a part by its node
-module _ (F : List ℕ) (l : Layout) (p : Part) {r : Node} (i : IsNode F l p r) where
+module _ (F : List ℕ) (l : Layout) (p : Part) {r : Node Part} (i : IsNode F l p r) where
   pub trees_more : 0 < p.n → trees F p ≡ more (trees F r.before) (rec_of F r.root) (trees F r.children)
   trees_more h =
       let t = trees_last F p h in

@@ -1,5 +1,6 @@
 -- How the counts of trees in a row grow by one tree before them.
-use Rattle.std.specs.Prelude.{◌+◌, ◌<◌, cond, eqb}
+use Rattle.std.specs.Prelude.{◌+◌, ◌<◌, Some}
+use Rattle.std.specs.Option.{option_or}
 use Rattle.tree.specs.declared.Element.{Element}
 use Rattle.tree.specs.declared.Element.TheVariants.{Case, Default, Statement}
 use Rattle.tree.specs.declared.Counts.{Counts}
@@ -14,5 +15,5 @@ pub record Few (c : Counts) : Type 0 where
 abbrev pub with_tree : Element → Counts → Counts
 with_tree Case c = record { trees = c.trees + 1; labels = c.labels + 1; cases = c.cases + 1; from_default = c.from_default }
 with_tree Default c =
-    record { trees = c.trees + 1; labels = c.labels + 1; cases = c.cases; from_default = cond (eqb c.from_default 0) (c.labels + 1) c.from_default }
+    record { trees = c.trees + 1; labels = c.labels + 1; cases = c.cases; from_default = option_or c.from_default (Some (c.labels + 1)) }
 with_tree Statement c = record { trees = c.trees + 1; labels = c.labels; cases = c.cases; from_default = c.from_default }

@@ -1,3 +1,4 @@
 pub mod Trees
 pub mod Within
 pub mod Count
+pub mod Handle

@@ -1,5 +1,5 @@
 -- The trees of a part of the records, with their strings resolved, and what the walk asks of them.
-use Rattle.std.specs.Prelude.{ℕ, zero, suc, ◌+◌, List, cond, eqb}
+use Rattle.std.specs.Prelude.{ℕ, suc, ◌+◌, List, Option, None, Some, option_map, cond, eqb}
 use Rattle.hir.specs.Hir.{Rec}
 use Rattle.hir.specs.Tree.{Forest, more, map_forest}
 use Rattle.hir.specs.declared.Record.{Record}
@@ -30,13 +30,13 @@ trees F p = map_forest (rec_in F) (trees_in (rows_in F) p)
 abbrev pub rec_of : List ℕ → Record → Rec
 rec_of F r = resolved (string_at F (layout_of F)) r
 
-abbrev pub made_node : Tree → Node
+abbrev pub made_node : Tree → Node Part
 made_node t = record { root = record_of (words_of t.row); number = t.children.end; children = t.children; before = t.before }
 
-abbrev pub no_node : Part → Node
+abbrev pub no_node : Part → Node Part
 no_node p = record { root = kind.Absent; number = 0; children = p; before = p }
 
-unfoldable pub node_of : List ℕ → Layout → Part → Node
+unfoldable pub node_of : List ℕ → Layout → Part → Node Part
 node_of F l p = cond (eqb p.n 0) (no_node p) (made_node (last_tree (rows_of F l) p))
 
 -- the kind of the last tree, and that of an absent child where there is none
@@ -80,18 +80,13 @@ unfoldable pub cases : Forest Rec → ℕ
 cases Forest.none = 0
 cases (more before r kids) = cases before + is_case (meaning.element r)
 
--- one more, if there is a Default
-abbrev pub after_default : ℕ → ℕ
-after_default zero = zero
-after_default (suc n) = suc (suc n)
+abbrev pub from_default_at : meaning.Element → Option ℕ → Option ℕ
+from_default_at meaning.case o = option_map suc o
+from_default_at meaning.default o = Some 1
+from_default_at meaning.statement o = o
 
-abbrev pub from_default_at : meaning.Element → ℕ → ℕ
-from_default_at meaning.case n = after_default n
-from_default_at meaning.default n = 1
-from_default_at meaning.statement n = n
-
-unfoldable pub from_default_of : Forest Rec → ℕ
-from_default_of Forest.none = 0
+unfoldable pub from_default_of : Forest Rec → Option ℕ
+from_default_of Forest.none = None
 from_default_of (more before r kids) = from_default_at (meaning.element r) (from_default_of before)
 
 abbrev pub counts_of : Forest Rec → Counts

@@ -121,7 +121,7 @@ live kind.Default = 1
 live kind.Other = 1
 
 -- the node of a part
-pub record IsNode (F : List ℕ) (l : Layout) (p : Part) (r : Node) : Type 0 where
+pub record IsNode (F : List ℕ) (l : Layout) (p : Part) (r : Node Part) : Type 0 where
   pub root : nth Rec.Absent 0 (trees F p) ≡ rec_of F r.root
   pub kids : trees F r.children ≡ list 0 (trees F p)
   pub rest : trees F r.before ≡ but_last (trees F p)

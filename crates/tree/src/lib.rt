@@ -1,7 +1,7 @@
 #![tactic(auto)]
 
 // The tree of a script file, node by node. A node's children, and those before a sibling, are parts of the records.
-ghost use Rattle.std.specs.Prelude.{◌≡◌, ◌-◌, ◌≤◌};
+ghost use Rattle.std.specs.Prelude.{◌≡◌, ◌-◌, ◌≤◌, ◌<◌, eqb};
 ghost use Rattle.lowering.specs.Meaning.{width};
 ghost use Rattle.tree.specs.Count.{Few, with_tree};
 ghost use Rattle.tree.specs.Trees.{node_of, kind_at, element_of, trees, counts_of};
@@ -9,19 +9,21 @@ ghost use Rattle.tree.specs.Within.{Within, IsKid, IsList};
 
 use decode::record_of;
 use hir::Record;
-use script_records::layout::{Layout, known_row};
+use script_records::kind::Kind;
+use script_records::layout::{Layout, Row, ScriptFile};
 use script_records::part::{Part, last_tree};
 
-// The last tree of a part: its record, the record's number, its children, and the trees before it. Of no tree the record is Absent.
+// The last tree of a row: its record, the record's number, its children, and the trees before it. Of no tree the record is Absent.
 #[derive(Clone, Copy)]
-pub struct Node {
+pub struct Node<T> {
     pub root: Record,
     pub number: usize,
-    pub children: Part,
-    pub before: Part,
+    pub children: T,
+    pub before: T,
 }
 
-pub fn node_at(file: &[u8], l: Layout, p: Part) -> Node
+// The last tree of a part of any file's records.
+pub fn node_at(file: &[u8], l: Layout, p: Part) -> Node<Part>
     ensures { result ≡ node_of file.now l p }
 {
     if p.n == 0 {
@@ -45,63 +47,12 @@ pub fn node_at(file: &[u8], l: Layout, p: Part) -> Node
     }
 }
 
-// A part without its last s records.
-fn without(p: Part, s: usize) -> Part
-    requires { (s ≤ p.n) × (p.n ≤ p.end) }
-    ensures { result ≡ record { end = p.end - s; n = p.n - s } }
-{
-    Part {
-        end: p.end - s,
-        n: p.n - s,
-    }
-}
-
-// The trees before the last. For sizes of one to three a branch lets the processor go on before the size is read.
-pub fn rest_of(file: &[u8], l: Layout, p: Part) -> Part
-    requires { Within file.now l p }
-    ensures { result ≡ (node_of file.now l p).before }
-{
-    if p.n == 0 {
-        return p;
-    }
-    let row = known_row(file, l, p.end - 1);
-    if row.size == 1 {
-        return without(p, 1);
-    }
-    if row.size == 2 {
-        return without(p, 2);
-    }
-    if row.size == 3 {
-        return without(p, 3);
-    }
-    without(p, row.size as usize)
-}
-
-// The children of the last tree.
-pub fn children_of(file: &[u8], l: Layout, p: Part) -> Part
-    requires { Within file.now l p }
-    ensures { result ≡ (node_of file.now l p).children }
-{
-    if p.n == 0 {
-        return p;
-    }
-    let row = known_row(file, l, p.end - 1);
-    Part {
-        end: p.end - 1,
-        n: row.size as usize - 1,
-    }
-}
-
-// The kind of the last tree's record, and that of an absent child where there is none.
-pub fn kind_at(file: &[u8], l: Layout, p: Part) -> u32
-    requires { Within file.now l p }
-    ensures { result ≡ kind_at file.now l p }
-{
-    if p.n == 0 {
-        return 96;
-    }
-    let row = known_row(file, l, p.end - 1);
-    row.kind
+// Trees in a row of an accepted file. They are walked from the last to the first.
+#[derive(Clone, Copy)]
+pub struct Trees<'a> {
+    pub script: ScriptFile<'a>,
+    pub part: Part,
+    pub ghost within: { Within script.bytes.now script.layout part },
 }
 
 // What stands in a switch's list.
@@ -112,46 +63,26 @@ pub enum Element {
     Statement,
 }
 
-pub fn element_of(root: Record) -> Element
-    ensures { result ≡ element_of root }
-{
-    match root {
-        Record::Case => Element::Case,
-        Record::Default => Element::Default,
-        Record::Statement(_) => Element::Statement,
-        Record::Expr(_) => Element::Statement,
-        Record::Absent => Element::Statement,
-        Record::List(_) => Element::Statement,
-        Record::ObjectField(_) => Element::Statement,
-        Record::Parameter {
-            name: _,
-            register: _,
-        } => Element::Statement,
-        Record::Other => Element::Statement,
-    }
-}
+impl From<Record> for Element {
+    ghost from_gives = { λ root e. e ≡ element_of root };
 
-// Most trees are neither, which their kind tells.
-pub fn element_at(file: &[u8], l: Layout, p: Part) -> Element
-    requires { Within file.now l p }
-    ensures { result ≡ element_of (node_of file.now l p).root }
-{
-    if kind_at(file, l, p) < 100 {
-        return Element::Statement;
+    fn from(root: Record) -> Self {
+        match root {
+            Record::Case => Element::Case,
+            Record::Default => Element::Default,
+            _ => Element::Statement,
+        }
     }
-    let t = node_at(file, l, p);
-    let root = t.root;
-    element_of(root)
 }
 
 // Of the trees in a row: how many there are, how many of them are Case or Default, how many Case, and how many of the labelled ones stand from the
-// last Default on (0 if there is no Default).
-#[derive(Clone, Copy)]
+// last Default on.
+#[derive(Clone, Copy, Default)]
 pub struct Counts {
     pub trees: u32,
     pub labels: u32,
     pub cases: u32,
-    pub from_default: u32,
+    pub from_default: Option<u32>,
 }
 
 // One tree more, before those that were counted.
@@ -160,89 +91,210 @@ fn with_tree(element: Element, after: Counts) -> Counts
     ensures { result ≡ with_tree element after }
 {
     let trees = after.trees + 1;
-    let labels = after.labels;
-    let cases = after.cases;
-    let from_default = after.from_default;
+    let labels = after.labels + 1;
     match element {
         Element::Case => Counts {
             trees,
-            labels: labels + 1,
-            cases: cases + 1,
-            from_default,
+            labels,
+            cases: after.cases + 1,
+            ..after
         },
         Element::Default => Counts {
             trees,
-            labels: labels + 1,
-            cases,
-            from_default: if from_default == 0 {
-                labels + 1
-            } else {
-                from_default
-            },
-        },
-        Element::Statement => Counts {
-            trees,
             labels,
-            cases,
-            from_default,
+            from_default: after.from_default.or(Some(labels)),
+            ..after
         },
+        Element::Statement => Counts { trees, ..after },
     }
 }
 
-pub fn counts_of(file: &[u8], l: Layout, p: Part) -> Counts
-    requires { Within file.now l p }
-    ensures { result ≡ counts_of (trees file.now p) }
-{
-    let mut found = Counts {
-        trees: 0,
-        labels: 0,
-        cases: 0,
-        from_default: 0,
-    };
-    let mut left = p;
-    while left.n != 0 {
-        let element = element_at(file, l, left);
-        found = with_tree(element, found);
-        let before = rest_of(file, l, left);
-        left = before;
+impl<'a> Trees<'a> {
+    ghost use Rattle.std.specs.Prelude.{◌≡◌, ◌-◌, ◌<◌, eqb};
+    ghost use Rattle.script_records.specs.Layout.{rows_of, row_in};
+    ghost use Rattle.tree.specs.Handle.{file_of, parts_of, trees_of, IsRest};
+
+    pub fn is_empty(&self) -> bool
+        ensures { result ≡ eqb self.now.part.n 0 }
+    {
+        self.part.n == 0
     }
-    found
+
+    // The last record.
+    fn row(&self) -> Row
+        requires { 0 < self.now.part.n }
+        ensures { result ≡ row_in (rows_of (file_of self.now) self.now.script.layout) (self.now.part.end - 1) }
+    {
+        self.script.known_row(self.part.end - 1)
+    }
+
+    // The trees before the last, which has so many records.
+    fn without(&self, size: usize) -> Trees<'a>
+        requires { (0 < self.now.part.n) × (size ≡ (row_in (rows_of (file_of self.now) self.now.script.layout) (self.now.part.end - 1)).size) }
+        ensures { IsRest self.now result }
+    {
+        Trees {
+            script: self.script,
+            part: Part {
+                end: self.part.end - size,
+                n: self.part.n - size,
+            },
+        }
+    }
+
+    // The trees before the last. For sizes of one to three a branch lets the processor go on before the size is read.
+    pub fn rest(&self) -> Trees<'a>
+        ensures { IsRest self.now result }
+    {
+        if self.is_empty() {
+            return *self;
+        }
+        match self.row().size {
+            1 => self.without(1),
+            2 => self.without(2),
+            3 => self.without(3),
+            size => self.without(size as usize),
+        }
+    }
+
+    // The children of the last tree.
+    pub fn children(&self) -> Trees<'a>
+        ensures script { result.script ≡ self.now.script }
+        ensures part { result.part ≡ (node_of (file_of self.now) self.now.script.layout self.now.part).children }
+    {
+        if self.is_empty() {
+            return *self;
+        }
+        Trees {
+            script: self.script,
+            part: Part {
+                end: self.part.end - 1,
+                n: self.row().size as usize - 1,
+            },
+        }
+    }
+
+    // The last tree.
+    pub fn node(&self) -> Node<Trees<'a>>
+        ensures children { result.children.script ≡ self.now.script }
+        ensures before { result.before.script ≡ self.now.script }
+        ensures node { parts_of result ≡ node_of (file_of self.now) self.now.script.layout self.now.part }
+    {
+        let node = node_at(self.script.bytes, self.script.layout, self.part);
+        Node {
+            root: node.root,
+            number: node.number,
+            children: Trees {
+                script: self.script,
+                part: node.children,
+            },
+            before: Trees {
+                script: self.script,
+                part: node.before,
+            },
+        }
+    }
+
+    // The kind of the last tree's record, and that of an absent child where there is none.
+    pub fn kind(&self) -> u32
+        ensures { result ≡ kind_at (file_of self.now) self.now.script.layout self.now.part }
+    {
+        if self.is_empty() {
+            return Kind::Absent as u32;
+        }
+        self.row().kind
+    }
+
+    // Most trees are neither Case nor Default, which their kind tells.
+    pub fn element(&self) -> Element
+        ensures { result ≡ element_of (node_of (file_of self.now) self.now.script.layout self.now.part).root }
+    {
+        if self.kind() < Kind::Case as u32 {
+            return Element::Statement;
+        }
+        Element::from(self.node().root)
+    }
+
+    pub fn counts(&self) -> Counts
+        ensures { result ≡ counts_of (trees_of self.now) }
+    {
+        let mut found = Counts::default();
+        for tree in *self {
+            found = with_tree(tree.element(), found);
+        }
+        found
+    }
+
+    // How many trees there are.
+    pub fn width(&self) -> u32
+        ensures { result ≡ width (trees_of self.now) }
+    {
+        let mut count = 0;
+        for _ in *self {
+            count += 1;
+        }
+        count
+    }
+
+    // The trees up to the one n places before the last.
+    pub fn kid(&self, n: u32) -> Trees<'a>
+        ensures script { result.script ≡ self.now.script }
+        ensures kid { IsKid (file_of self.now) self.now.script.layout self.now.part n result.part }
+    {
+        let mut left = *self;
+        for _ in 0..n {
+            left = left.rest();
+        }
+        left
+    }
+
+    // The children of that one.
+    pub fn list(&self, n: u32) -> Trees<'a>
+        ensures script { result.script ≡ self.now.script }
+        ensures list { IsList (file_of self.now) self.now.script.layout self.now.part n result.part }
+    {
+        self.kid(n).children()
+    }
 }
 
-// How many trees stand in a row.
-pub fn width_of(file: &[u8], l: Layout, p: Part) -> u32
-    requires { Within file.now l p }
-    ensures { result ≡ width (trees file.now p) }
-{
-    let mut count: u32 = 0;
-    let mut rest = p;
-    while rest.n != 0 {
-        count += 1;
-        let before = rest_of(file, l, rest);
-        rest = before;
+// The trees from the last to the first, each as those up to it.
+impl<'a> Iterator for Trees<'a> {
+    ghost use Rattle.std.specs.Iterator.{at_most};
+    ghost use Rattle.tree.specs.Handle.{GivesLast};
+
+    type Item = Trees<'a>;
+
+    ghost next_gives = { GivesLast };
+
+    ghost remaining = { λ s. at_most s.part.n };
+
+    fn next(&mut self) -> Option<Trees<'a>> {
+        if self.is_empty() {
+            return None;
+        }
+        let last = *self;
+        *self = last.rest();
+        Some(last)
     }
-    count
 }
 
-// The part whose last tree is the one n places before the last, and that tree's children.
-pub fn kid_at(file: &[u8], l: Layout, p: Part, n: u32) -> Part
+// The same at a part that is within an accepted file.
+fn trees_at<'a>(file: &'a [u8], l: Layout, p: Part) -> Trees<'a>
     requires { Within file.now l p }
-    ensures { IsKid file.now l p n result }
+    ensures { (result.script.bytes.now ≡ file.now) × (result.script.layout ≡ l) × (result.part ≡ p) }
 {
-    let mut left = p;
-    let mut i: u32 = 0;
-    while i < n {
-        let before = rest_of(file, l, left);
-        left = before;
-        i += 1;
+    Trees {
+        script: ScriptFile {
+            bytes: file,
+            layout: l,
+        },
+        part: p,
     }
-    left
 }
 
 pub fn list_at(file: &[u8], l: Layout, p: Part, n: u32) -> Part
     requires { Within file.now l p }
     ensures { IsList file.now l p n result }
 {
-    let kid = kid_at(file, l, p, n);
-    children_of(file, l, kid)
+    trees_at(file, l, p).list(n).part
 }

@@ -6,10 +6,10 @@ use native.Mathlib.Nat.{pow-suc, mul-one, mul_assoc, zero-add, mod-eq_of_lt}
 use native.Mathlib.Omega.{arith}
 use lib.ListN.{get_or}
 use mathlib.Core.List.{List}
-use Rattle.utf8.specs.Chars.{Ascii, four_at}
+use Rattle.std.specs.Int.{from_le_bytes}
+use Rattle.utf8.specs.Chars.{Ascii}
 use lib.Bits.{bit_and, and_block, and_high, and_lt}
 use mir.Syntax.{w64}
-use mir.Val.{Fits}
 use lib.Count.{count_trailing_zeros, under, trailing_le}
 
 -- n bytes as a number, the first one lowest
@@ -74,15 +74,8 @@ below_set (suc n) g small j h =
 pub eighth_le : (n : ℕ) → count_trailing_zeros 64 n / 8 ≤ 8
 eighth_le n = let l = trailing_le 64 n in omega arith
 
-pub eighth_fits : (n : ℕ) → Fits w64 (count_trailing_zeros 64 n / 8)
-eighth_fits n = let l = trailing_le 64 n in omega arith
-
--- the same of eight bytes of a slice
-pub ascii_below : (s : List ℕ) (i x : ℕ) → ((k : ℕ) → get_or s (i + k) 0 < 256) → x ≡ four_at s i + 4294967296 * four_at s (i + 4) → Ascii s i (count_trailing_zeros 64 (bit_and x 0x8080808080808080) / 8)
-ascii_below s i x small e =
-    let a : i + 0 ≡ i = omega arith in
-    let b : i + 5 ≡ i + 4 + 1 = omega arith in
-    let c : i + 6 ≡ i + 4 + 2 = omega arith in
-    let d : i + 7 ≡ i + 4 + 3 = omega arith in
-    let f : x ≡ digits (λ k. get_or s (i + k) 0) 8 = rw (a, b, c, d) (omega arith) in
-    record { each = λ k l. below_set 8 (λ k. get_or s (i + k) 0) small k (rw (← f) (omega arith)) }
+-- the same of eight bytes
+pub ascii_below : (s : List ℕ) (x : ℕ) → ((k : ℕ) → get_or s k 0 < 256) → x ≡ from_le_bytes w64 s → Ascii s 0 (count_trailing_zeros 64 (bit_and x 0x8080808080808080) / 8)
+ascii_below s x small e =
+    let f : x ≡ digits (λ k. get_or s k 0) 8 = omega arith in
+    record { each = λ k l. rw zero-add (below_set 8 (λ k. get_or s k 0) small k (rw (← f) (omega arith))) }

@@ -4,7 +4,7 @@ use mathlib.Core.Path.{◌≡◌, refl}
 use mathlib.Core.Bool.{Bool, true, false, cond, ◌&&◌, and-false, and-eq-true_iff}
 use mathlib.Core.List.{List, [], ◌∷◌}
 use mathlib.Core.Option.{Option, none, some}
-use Prim.Native.Nat.{ℕ, ◌+◌, ◌-◌, ◌≤◌}
+use Prim.Native.Nat.{ℕ, ◌≤◌}
 use native.Mathlib.Omega.{arith}
 use lib.Dec.{eqb, leb, ltb}
 use borrow.Author.Tests.{eqb-true, eqb-false, leb-true, ltb-true, ltb-false, le-leb, lt-leb}
@@ -52,17 +52,6 @@ more b = cond (ltb b 0xE0) [] (cond (ltb b 0xF0) (tail ∷ []) (tail ∷ tail �
 
 pub second_tail : (b : ℕ) → eqb b 0xE0 ≡ false → eqb b 0xED ≡ false → eqb b 0xF0 ≡ false → eqb b 0xF4 ≡ false → second b ≡ tail
 second_tail b e f g h = simp (e, f, g, h)
-
--- the ends of the range as sums
-pub lowest_sum : (b : ℕ) → 0x80 + cond (eqb b 0xE0) 0x20 0 + cond (eqb b 0xF0) 0x10 0 ≡ (second b).low
-lowest_sum b =
-    by_test (eqb b 0xE0) (λ t. let e = eqb-true b 0xE0 t in rw e refl)
-    (λ t. simp t (by_test (eqb b 0xF0) (λ u. simp u refl) (λ u. simp u refl)))
-
-pub highest_sum : (b : ℕ) → 0xBF - cond (eqb b 0xED) 0x20 0 - cond (eqb b 0xF4) 0x30 0 ≡ (second b).high
-highest_sum b =
-    by_test (eqb b 0xED) (λ t. let e = eqb-true b 0xED t in rw e refl)
-    (λ t. simp t (by_test (eqb b 0xF4) (λ u. simp u refl) (λ u. simp u refl)))
 
 -- every first byte of a char of several bytes
 pub opened : (b : ℕ) → 0xC2 ≤ b → b ≤ 0xF4 → next [] b ≡ some (second b ∷ more b)

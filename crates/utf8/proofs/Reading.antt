@@ -4,14 +4,21 @@ use mathlib.Core.Path.{◌≡◌, refl, sym, ◌∙◌}
 use mathlib.Core.Bool.{Bool, true, false, cond, ◌&&◌, and-false, and-eq-true_iff, false≢true}
 use mathlib.Core.List.{List, [], ◌∷◌}
 use mathlib.Core.Option.{Option, none, some, Option-elim, none-ne-some}
-use Prim.Native.Nat.{ℕ, zero, suc, ◌+◌, ◌≤◌, ◌<◌}
+use Prim.Native.Nat.{ℕ, zero, suc, ◌+◌, ◌-◌, ◌≤◌, ◌<◌}
 use native.Mathlib.Numerals.{add-one}
+use native.Mathlib.Nat.{zero-add}
 use native.Mathlib.Omega.{arith}
-use lib.Dec.{leb, ltb}
+use lib.Dec.{eqb, leb, ltb}
 use lib.ListN.{length, get_or, drop, drop_of_length-le}
 use lib.Seq.{drop-cons}
-use borrow.Author.Count.{below_none, below_more}
-use borrow.Author.Tests.{leb-true, leb-false, ltb-true, ltb-false, le-leb, lt-leb, le-ltb, lt-ltb}
+use borrow.Author.Tests.{eqb-true, leb-true, leb-false, ltb-true, ltb-false, le-leb, lt-leb, le-ltb, lt-ltb}
+use Rattle.std.specs.Prelude.{map, take, replicate, ◌%◌, ◌^◌}
+use Rattle.std.specs.Array.{IsFirstChunk}
+use Rattle.std.proofs.lemmas.Grind.{common_steps}
+use Rattle.std.proofs.lemmas.Simd.{none_from_empty_mask, tops_compared, mask_l-mod, zip2_splat_left}
+use Rattle.std.proofs.lemmas.List.{length-map, get_or-take, get_or-drop}
+use mir.Syntax.{w8}
+use lib.Lanes.{zip2, chunk, mask_l, top}
 use Rattle.utf8.specs.Utf8.{Range, ◌to◌, tail, chars, in_range, started, next, completes, utf8}
 use Rattle.utf8.specs.Chars.{from, Ascii, Passed, Ran, Stands, second}
 use Rattle.utf8.proofs.Forms.{by_test, decided, starts, more, opened}
@@ -130,11 +137,34 @@ ascii_run s i (suc n) h a =
     let e : i + suc n ≡ i + n + 1 = omega arith in
     rw e (ascii_byte s (i + n) (omega arith) (a.each n (omega arith)) ∙ ascii_run s i n (omega arith) (record { each = λ k l. a.each k (omega arith) }))
 
-pub ascii_none : (s : List ℕ) (i : ℕ) → Ascii s i 0
-ascii_none s i = record { each = below_none (λ (k : ℕ). get_or s (i + k) 0 < 0x80) }
+-- a byte of a part of the bytes
+pub part_at : (s : List ℕ) (i n k : ℕ) → k < n → get_or (take n (drop i s)) k 0 ≡ get_or s (i + k) 0
+part_at s i n k h = get_or-take n (drop i s) k 0 h ∙ get_or-drop i s k 0
 
-pub ascii_more : {s : List ℕ} {i n : ℕ} → Ascii s i n → get_or s (i + n) 0 < 0x80 → Ascii s i (n + 1)
-ascii_more {s} {i} {n} a b = record { each = below_more (λ (k : ℕ). get_or s (i + k) 0 < 0x80) n a.each b }
+-- the first eight bytes from a position on
+pub ascii_word : (s : List ℕ) (i : ℕ) {w : List ℕ} {n : ℕ} → IsFirstChunk (take (length s - i) (drop i s)) w 8 → n ≤ 8 → Ascii w 0 n → (i + n ≤ length s) × Ascii s i n
+ascii_word s i {w} {n} e h a =
+    let m : 8 + i ≤ length s = let l = e.enough in grind (arith, common_steps) in (
+      omega arith,
+      record {
+        each = λ k l.
+            let q : k < length s - i = omega arith in
+            let r : get_or (take 8 (take (length s - i) (drop i s))) k 0 ≡ get_or s (i + k) 0 = get_or-take 8 (take (length s - i) (drop i s)) k 0 (omega arith) ∙ part_at s i (length s - i) k q in
+            let b : get_or w k 0 < 0x80 = rw zero-add at (a.each k l) in
+            rw (← r, ← e.same) b;
+      },
+    )
+
+-- lanes of which none is 0x80 or more
+abbrev compared : ℕ → ℕ → ℕ
+compared a b = cond (leb a b) 0xFF 0
+
+pub ascii_lanes : (s : List ℕ) (i n : ℕ) → i + n ≤ length s → n ≤ 64 → eqb (mask_l (map (top 7) (zip2 compared (replicate n 0x80) (chunk i n s))) % 2 ^ 64) 0 ≡ true → Ascii s i n
+ascii_lanes s i n h k e =
+    let l : length (chunk i n s) ≡ n = grind (arith, common_steps) in
+    let x : map (top 7) (zip2 compared (replicate n 0x80) (chunk i n s)) ≡ map (leb 0x80) (chunk i n s) = tops_compared w8 leb _ _ ∙ zip2_splat_left leb 0x80 n (chunk i n s) l in
+    let m : mask_l (map (leb 0x80) (chunk i n s)) ≡ 0 = sym (mask_l-mod _ 64 (omega (arith, length-map (chunk i n s) (leb 0x80)))) ∙ rw x at (eqb-true _ 0 e) in
+    record { each = λ j q. leb-false 0x80 _ (none_from_empty_mask (leb 0x80) s i n 0 h m (i + j) (omega arith) (omega arith)) }
 
 pub passed_none : (s : List ℕ) (i : ℕ) → i ≤ length s → Passed s i i
 passed_none s i h = record { onward = omega arith; within = h; same = refl }

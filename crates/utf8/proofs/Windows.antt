@@ -1,40 +1,19 @@
 -- Bytes of which each can stand after the three before it are whole chars, but for one that is open at their end.
 -- Assumes nothing.
-use mathlib.Core.Path.{◌≡◌, refl, sym, ◌∙◌, ap, ap₂, subst}
-use mathlib.Core.Bool.{true, false, cond, ◌||◌, false≢true}
+use mathlib.Core.Path.{◌≡◌, refl, sym, ◌∙◌, ap, subst}
+use mathlib.Core.Bool.{true, false, cond}
 use mathlib.Core.List.{List, [], ◌∷◌}
 use mathlib.Core.Option.{some, Option-elim}
 use Prim.Native.Nat.{ℕ, zero, suc, ◌+◌, ◌-◌, ◌≤◌, ◌<◌}
 use native.Mathlib.Omega.{arith}
 use lib.Dec.{eqb, leb, ltb}
 use lib.ListN.{length, get_or, drop}
-use borrow.Author.Count.{below_none, below_more}
+use borrow.Author.Count.{below_more}
 use borrow.Author.Tests.{eqb-true, eqb-false, leb-true, leb-false, ltb-true, ltb-false, le-leb, lt-leb, lt-ltb, le-ltb, ne_eqb}
 use Rattle.utf8.specs.Utf8.{Range, tail, in_range, next, completes}
-use Rattle.utf8.specs.Chars.{from, Ascii, second, is_first, owes, may_follow, Follows, last_start, Closed, Past}
+use Rattle.utf8.specs.Chars.{from, Ascii, second, is_first, may_follow, Follows, last_start, Closed, Past}
 use Rattle.utf8.proofs.Forms.{by_test, more, second_tail, opened, starts}
 use Rattle.utf8.proofs.Reading.{byte, bounds}
-
-larger_leb : (n a b : ℕ) → leb n (cond (ltb a b) b a) ≡ (leb n a || leb n b)
-larger_leb n a b =
-    by_test (ltb a b)
-    (λ t. simp t (by_test (leb n a) (λ u. simp u (le-leb n b (omega (arith, ltb-true, leb-true)))) (λ u. simp u refl)))
-    (λ t.
-    simp t
-    (by_test (leb n a) (λ u. simp u refl)
-    (λ u. simp (u, lt-leb n b (omega (arith, ltb-false, leb-false))) refl)))
-
-less_leb : (n by b : ℕ) → 0 < n → leb n (b - by) ≡ leb (n + by) b
-less_leb n by b h =
-    by_test (leb (n + by) b) (λ t. simp t (le-leb n (b - by) (omega (arith, leb-true))))
-    (λ t. simp t (lt-leb n (b - by) (omega (arith, leb-false))))
-
--- one comparison for three bytes
-pub owed_one : (third prior last x y m r : ℕ) → x ≡ prior - 0x20 → y ≡ third - 0x30 → m ≡ cond (ltb x y) y x → r ≡ cond (ltb last m) m last → leb 0xC0 r ≡ owes third prior last
-owed_one third prior last x y m r ex ey em er =
-    ap (leb 0xC0) er
-    ∙ larger_leb 0xC0 last m
-    ∙ ap (λ t. leb 0xC0 last || t) (ap (leb 0xC0) em ∙ larger_leb 0xC0 x y ∙ ap₂ ◌||◌ (ap (leb 0xC0) ex ∙ less_leb 0xC0 0x20 prior (omega arith)) (ap (leb 0xC0) ey ∙ less_leb 0xC0 0x30 third (omega arith)))
 
 -- what is owed after three bytes
 abbrev owing : ℕ → ℕ → ℕ → List Range
@@ -128,14 +107,8 @@ module _ (third prior last b : ℕ) (m : may_follow third prior last b ≡ true)
 abbrev May : List ℕ → ℕ → ℕ → Type 0
 May s i k = may_follow (get_or s (i + k) 0) (get_or s (i + k + 1) 0) (get_or s (i + k + 2) 0) (get_or s (i + k + 3) 0) ≡ true
 
-pub follows_none : (s : List ℕ) (i : ℕ) → Follows s i 0
-follows_none s i = record { each = below_none (May s i) }
-
 pub follows_more : {s : List ℕ} {i n : ℕ} → Follows s i n → May s i n → Follows s i (n + 1)
 follows_more {s} {i} {n} f m = record { each = below_more (May s i) n f.each m }
-
-pub follows_start : (s : List ℕ) (i : ℕ) → Follows s i (i - i)
-follows_start s i = let e : i - i ≡ 0 = omega arith in rw e (follows_none s i)
 
 pub follows_on : {s : List ℕ} {i j : ℕ} (n : ℕ) → i ≤ j → Follows s i (j - i) → Follows s j n → Follows s i (j + n - i)
 follows_on {s} {i} {j} n h f g =
@@ -165,24 +138,11 @@ shut_at s i e =
     by_test (leb 0xF0 (get_or s i 0)) (λ v. let f : i ≡ i + 3 = simp (t, u, v) at e in absurd (omega arith))
     (λ v. (leb-false 0xC0 _ t, leb-false 0xE0 _ u, leb-false 0xF0 _ v))))
 
-pub last_start_shut : (s : List ℕ) (i : ℕ) → owes (get_or s i 0) (get_or s (i + 1) 0) (get_or s (i + 2) 0) ≡ false → last_start s i ≡ i + 3
-last_start_shut s i e =
-    by_test (leb 0xC0 (get_or s (i + 2) 0)) (λ t. absurd (false≢true (sym (simp t at e))))
-    (λ t.
-    by_test (leb 0xE0 (get_or s (i + 1) 0)) (λ u. absurd (false≢true (sym (simp (t, u) at e))))
-    (λ u. let v : leb 0xF0 (get_or s i 0) ≡ false = simp (t, u) at e in simp (t, u, v)))
-
 closed_by : (s : List ℕ) (i j : ℕ) → j ≡ i + 3 → last_start s i ≡ j → Closed s j
 closed_by s i j h l = record { none = λ m e. let d : m ≡ i = omega arith in rw d l }
 
 closed_shut : (s : List ℕ) (i j : ℕ) → j ≡ i + 3 → Shut s i → Closed s j
 closed_shut s i j h c = closed_by s i j h (simp (lt-leb 0xC0 _ c.0, lt-leb 0xE0 _ c.1, lt-leb 0xF0 _ c.2) (sym h))
-
-pub closed_early : (s : List ℕ) (i : ℕ) → i < 3 → Closed s i
-closed_early s i h = record { none = λ j e. absurd (omega arith) }
-
-pub closed_tested : (s : List ℕ) (i : ℕ) → 3 ≤ i → last_start s (i - 3) ≡ i → Closed s i
-closed_tested s i h = closed_by s (i - 3) i (omega arith)
 
 pub closed_ascii : {s : List ℕ} {i : ℕ} (n : ℕ) → 3 ≤ n → Ascii s i n → Closed s (i + n)
 closed_ascii {s} {i} n h a =
@@ -191,9 +151,6 @@ closed_ascii {s} {i} n h a =
     let y = byte_at 1 (omega arith) in
     let z = a.each (n - 3) (omega arith) in
     closed_shut s (i + (n - 3)) (i + n) (omega arith) (omega arith, omega arith, omega arith)
-
-pub last_start_of : {s : List ℕ} {i : ℕ} → 3 ≤ i → Closed s i → last_start s (i - 3) ≡ i - 3 + 3
-last_start_of {s} {i} h c = let e : i ≡ i - 3 + 3 = omega arith in c.none (i - 3) e ∙ e
 
 module _ (s : List ℕ) (i : ℕ) (c : Shut s i) where
   -- none of the three bytes before opens a char

@@ -7,38 +7,21 @@ ghost use Rattle.utf8.specs.Chars.{second, Stands, Ran};
 pub fn within(b: u8, low: u8, high: u8) -> bool
     ensures { result ≡ in_range b (low to high) }
 {
-    if b < low {
-        return false;
-    }
-    b <= high
-}
-
-// A number if something is so, and otherwise 0.
-fn only_if(is: bool, n: u8) -> u8
-    ensures { (result ≡ cond is n 0) × (result ≤ n) }
-{
-    if is {
-        return n;
-    }
-    0
+    low <= b && b <= high
 }
 
 // The lowest byte that can stand after a first byte: others would be overlong forms. A sum, so that the compiler can do this for many bytes at once.
 fn lowest(first: u8) -> u8
     ensures { result ≡ (second first).low }
 {
-    let three = only_if(first == 0xE0, 0x20);
-    let four = only_if(first == 0xF0, 0x10);
-    0x80 + three + four
+    0x80 + 0x20 * u8::from(first == 0xE0) + 0x10 * u8::from(first == 0xF0)
 }
 
 // The highest byte that can stand after a first byte: others would be surrogates, or above 10FFFF.
 fn highest(first: u8) -> u8
     ensures { result ≡ (second first).high }
 {
-    let three = only_if(first == 0xED, 0x20);
-    let four = only_if(first == 0xF4, 0x30);
-    0xBF - three - four
+    0xBF - 0x20 * u8::from(first == 0xED) - 0x30 * u8::from(first == 0xF4)
 }
 
 // Whether a byte can stand after a first byte.

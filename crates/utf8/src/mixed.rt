@@ -9,49 +9,22 @@ use crate::chars::{is_second, within};
 fn is_first(b: u8) -> bool
     ensures { result ≡ is_first b }
 {
-    if b < 0x80 {
-        return true;
-    }
-    within(b, 0xC2, 0xF4)
-}
-
-fn less(b: u8, by: u8) -> u8
-    ensures { result ≡ b - by }
-{
-    if b < by {
-        return 0;
-    }
-    b - by
-}
-
-fn larger(a: u8, b: u8) -> u8
-    ensures { result ≡ cond (ltb a b) b a }
-{
-    if a < b {
-        return b;
-    }
-    a
+    b < 0x80 || within(b, 0xC2, 0xF4)
 }
 
 // Whether a char is open after three bytes. One comparison for the three of them, so that the compiler can do this for many bytes at once.
 fn is_owed(third: u8, prior: u8, last: u8) -> bool
     ensures { result ≡ owes third prior last }
 {
-    let two = larger(less(prior, 0x20), less(third, 0x30));
-    0xC0 <= larger(last, two)
+    let two = prior.saturating_sub(0x20).max(third.saturating_sub(0x30));
+    0xC0 <= last.max(two)
 }
 
 // The same for one position, where it is nearly always the same answer.
 fn is_open(third: u8, prior: u8, last: u8) -> bool
     ensures { result ≡ owes third prior last }
 {
-    if 0xC0 <= last {
-        return true;
-    }
-    if 0xE0 <= prior {
-        return true;
-    }
-    0xF0 <= third
+    0xC0 <= last || 0xE0 <= prior || 0xF0 <= third
 }
 
 // Whether a byte can stand after three bytes. Both answers are there before the choice, so that the compiler can do this for many bytes at once.
@@ -73,13 +46,11 @@ fn is_window(s: &[u8], i: usize) -> bool
     ensures { result ≡ true → Follows s.now i 16 }
 {
     let mut count: u8 = 0;
-    let mut k: usize = 0;
-    while k < 16 {
+    for k in 0..16 {
         let at = i + k;
         if may_follow(s[at], s[at + 1], s[at + 2], s[at + 3]) {
             count += 1;
         }
-        k += 1;
     }
     count == 16
 }
@@ -117,10 +88,7 @@ fn is_mixed(s: &[u8], i: usize) -> bool
     requires { i ≤ length s.now }
     ensures { result ≡ true → i + 16 ≤ length s.now }
 {
-    if s.len() - i < 16 {
-        return false;
-    }
-    !is_ascii(s, i, 16)
+    16 <= s.len() - i && !is_ascii::<16>(s, i)
 }
 
 // Where the windows from start + 3 on end, less a char that the last one cuts.
@@ -143,10 +111,7 @@ fn is_closed(s: &[u8], i: usize) -> bool
     requires { i ≤ length s.now }
     ensures { result ≡ true → Closed s.now i }
 {
-    if i < 3 {
-        return true;
-    }
-    last_start(s, i - 3) == i
+    i < 3 || last_start(s, i - 3) == i
 }
 
 // Whether a position is too near to an end of the text for a window, which looks at the three bytes before it too.
@@ -154,10 +119,7 @@ fn is_edge(s: &[u8], i: usize) -> bool
     requires { i ≤ length s.now }
     ensures { result ≡ false → (3 ≤ i) × (i + 16 ≤ length s.now) }
 {
-    if i < 3 {
-        return true;
-    }
-    s.len() - i < 16
+    i < 3 || s.len() - i < 16
 }
 
 // Where the blocks of ASCII and the windows at a position end.

@@ -1,25 +1,18 @@
-#![tactic(auto)]
+#![tactic(auto, unfolding(list_slice::specs::Words::zeros_of))]
 
-// Slices cleared: what the calls do before they write, and what a refusal leaves.
+// Slices cleared: what the calls do before they write, and what a refusal leaves. Two functions and not one, since a contract over any type of element
+// cannot say that the elements are the number 0.
 ghost use Rattle.std.specs.Prelude.{◌≡◌, length};
 ghost use Rattle.list_slice.specs.Words.{zeros_of};
 
 pub fn clear_words(words: &mut [u32])
     ensures { words.new ≡ zeros_of (length words.old) }
 {
-    let mut i: usize = 0;
-    while i < words.len() {
-        words[i] = 0;
-        i += 1;
-    }
+    words.fill(0);
 }
 
 pub fn clear_bytes(bytes: &mut [u8])
     ensures { bytes.new ≡ zeros_of (length bytes.old) }
 {
-    let mut at: usize = 0;
-    while at < bytes.len() {
-        bytes[at] = 0;
-        at += 1;
-    }
+    bytes.fill(0);
 }

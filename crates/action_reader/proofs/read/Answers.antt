@@ -1,20 +1,13 @@
-use mathlib.Core.Path.{ap, sym, ◌∙◌}
-use native.Mathlib.Omega.{arith}
+use Rattle.std.proofs.Common.{arith, ap, ◌∙◌}
 use Rattle.list_slice.specs.Words.{zeros_of}
-use Rattle.action_reader.proofs.Ending.{too_short, read_lists, no_lists}
+use Rattle.action_reader.proofs.Ending.{too_short, lists_read, no_lists}
 use Rattle.action_reader.proofs.read.Goals as goal
 
-pub returns-then-list-lt16384 : goal.returns-then-list-lt16384
-returns-then-list-lt16384 c = too_short _ _ (omega (arith, c.if-list-lt16384.true, c.clear_words.auto.words)) c.clear_words.ensures
+pub returns-then-list-lt-LIST_WORDS : goal.returns-then-list-lt-LIST_WORDS
+returns-then-list-lt-LIST_WORDS c = too_short _ _ (omega arith) c.clear_words.ensures
 
-pub walk_all-s-requires : goal.walk_all-s-requires
-walk_all-s-requires c = record {
-  in_bounds = c.if-list-lt16384.false;
-  list_value = c.clear_words.ensures ∙ ap zeros_of (sym c.clear_words.auto.words);
-}
-
-pub returns-then-s-eq1 : goal.returns-then-s-eq1
-returns-then-s-eq1 c = read_lists (omega (arith, c.if-list-lt16384.false, c.clear_words.auto.words)) (c.walk_all-s.auto.list ∙ c.clear_words.auto.words) c.walk_all-s.ensures c.if-s-eq1.true
+pub returns-in_default : goal.returns-in_default
+returns-in_default c = no_lists _ (omega arith) c.in_default.ensures (c.clear_words-in_default.ensures ∙ ap zeros_of (c.read_lists.auto.list ∙ c.clear_words.auto.words))
 
 pub returns : goal.returns
-returns c = no_lists (omega (arith, c.if-list-lt16384.false, c.clear_words.auto.words)) c.walk_all-s.ensures c.if-s-eq1.false (c.clear_words-2.ensures ∙ ap zeros_of (c.walk_all-s.auto.list ∙ c.clear_words.auto.words))
+returns c = lists_read _ (omega arith) (c.read_lists.auto.list ∙ c.clear_words.auto.words) c.in-Some.ensures

@@ -1,28 +1,33 @@
 -- By what its steps do, the definition gives the same lists or the same refusal.
-use Rattle.as2_codegen.proofs.Meets.{generating, base_is, generated_lists, generated_refusal}
+use native.Mathlib.Omega.{arith}
+use Rattle.tree.specs.Handle.{file_of}
+use Rattle.as2_codegen.proofs.Meets.{base_is, refused_low, generated_lists, generated_refusal}
 use Rattle.as2_codegen.proofs.generate.Goals as goal
 
 pub generate_actions-done-requires : goal.generate_actions-done-requires
 generate_actions-done-requires c =
-    let first = c.begin-b in
-    generating c.args.file.now c.requires.file_value c.args.l c.args.p c.requires.l_value.0 c.requires.l_value.1 first.result first.new.list (first.ensures c.args.file.now)
+    let first = c.begin-b.ensures (file_of c.args.accepted.now.statements) in
+    let within = c.args.accepted.now.statements.within in
+    record { fits = omega (arith, within.inside, within.known, within.sound.few); fine = first.fine; named = first.named }
+
+pub refusal-requires : goal.refusal-requires
+refusal-requires c =
+    let whole = c.args.accepted.now.whole in
+    refused_low whole.accepted whole.part (c.begin-b.ensures _) c.generate_actions-done.ensures c.if-done-ne0.true
 
 pub returns-then-done-ne0 : goal.returns-then-done-ne0
 returns-then-done-ne0 c =
-    let first = c.begin-b in
-    let done = c.generate_actions-done in
-    generated_refusal c.args.file.now c.requires.file_value c.args.l c.args.p c.requires.l_value.0 c.requires.l_value.1 first.result first.new.list (first.ensures c.args.file.now) done.result done.new.list done.ensures done.new.list c.if-done-ne0.true
+    let whole = c.args.accepted.now.whole in
+    generated_refusal whole.accepted whole.part (c.begin-b.ensures _) c.generate_actions-done.ensures c.generate_actions-done.new.list c.if-done-ne0.true c.refusal.ensures
 
-pub into_actions-requires : goal.into_actions-requires
-into_actions-requires c =
-    let first = c.begin-b in
-    let done = c.generate_actions-done in
-    record { fine = done.ensures.fine; base_value = base_is c.args.file.now c.requires.file_value c.args.l c.args.p c.requires.l_value.0 c.requires.l_value.1 first.result first.new.list (first.ensures c.args.file.now) done.result done.new.list done.ensures c.if-done-ne0.false }
+pub into_actions-requires-clause-base_value : goal.into_actions-requires-clause-base_value
+into_actions-requires-clause-base_value c =
+    let whole = c.args.accepted.now.whole in
+    base_is whole.accepted whole.part (c.begin-b.ensures _) c.generate_actions-done.ensures c.if-done-ne0.false
 
 pub returns : goal.returns
 returns c =
-    let first = c.begin-b in
-    let done = c.generate_actions-done in
-    let ended = c.into_actions in
-    generated_lists c.args.file.now c.requires.file_value c.args.l c.args.p c.requires.l_value.0 c.requires.l_value.1 first.result first.new.list (first.ensures c.args.file.now) done.result done.new.list done.ensures ended.new.list c.if-done-ne0.false
-    (λ v copied. ended.ensures c.args.file.now v (done.ensures.named (first.ensures c.args.file.now).named) copied)
+    let whole = c.args.accepted.now.whole in
+    let first = c.begin-b.ensures (file_of c.args.accepted.now.statements) in
+    let done = c.generate_actions-done.ensures in
+    generated_lists whole.accepted whole.part first done c.if-done-ne0.false (λ v copied. c.into_actions.ensures _ v (done.named first.named) copied)

@@ -1,4 +1,7 @@
+use mathlib.Core.Path.{ap}
+use Rattle.as2_codegen.specs.Begin.{statements_part}
+use Rattle.as2_codegen.proofs.Meets.{whole_within}
 use Rattle.as2_codegen.proofs.statements_of.Goals as goal
 
-pub returns-then-count-eq0 : goal.returns-then-count-eq0
-returns-then-count-eq0 c = rw c.if-count-eq0.true
+pub invariant_of-result : goal.invariant_of-result
+invariant_of-result c = record { within = whole_within c.args.file.now c.requires c.layout_of-layout.ensures (rw (c.saturating_sub-n.ensures) (ap statements_part c.layout_of-layout.ensures)) }

@@ -9,7 +9,7 @@ pub action-requires : goal.action-requires
 action-requires c = (c.push-b2.ensures [] tt).fine
 
 pub returns-then-declare : goal.returns-then-declare
-returns-then-declare c = declared c.args.file.now c.in-Variable.is c.if-declare.true c.requires.file_len_bound (c.push_string-b1.ensures (rw c.in-Variable.is at c.requires.t)) (c.push-b2.ensures c.args.file.now tt) (c.action.ensures c.args.file.now)
+returns-then-declare c = declared c.args.script.now.bytes.now c.in-Variable.is c.if-declare.true c.requires.file_len_bound (c.push_string-b1.ensures (rw c.in-Variable.is at c.requires.t)) (c.push-b2.ensures c.args.script.now.bytes.now tt) (c.action.ensures c.args.script.now.bytes.now)
 
 pub push-b2-requires-in-Variable : goal.push-b2-requires-in-Variable
 push-b2-requires-in-Variable c = (c.for_identifier-a.ensures (rw c.in-Variable.is at c.requires.t)).fine
@@ -24,7 +24,7 @@ pub action-requires-in-Register : goal.action-requires-in-Register
 action-requires-in-Register c = (c.store_register-b2.ensures []).fine
 
 pub returns-else-declare : goal.returns-else-declare
-returns-else-declare c = variable c.args.file.now c.in-Variable.is c.if-declare.false c.requires.file_len_bound (c.for_identifier-a.ensures (rw c.in-Variable.is at c.requires.t)) (c.push-b2-in-Variable.ensures c.args.file.now tt) (c.set_value.ensures c.args.file.now)
+returns-else-declare c = variable c.args.script.now.bytes.now c.in-Variable.is c.if-declare.false c.requires.file_len_bound (c.for_identifier-a.ensures (rw c.in-Variable.is at c.requires.t)) (c.push-b2-in-Variable.ensures c.args.script.now.bytes.now tt) (c.set_value.ensures c.args.script.now.bytes.now)
 
 pub returns-in-Register : goal.returns-in-Register
-returns-in-Register c = register c.args.file.now c.in-Register.is (c.push-b1.ensures c.args.file.now tt) (c.store_register-b2.ensures c.args.file.now) (c.action-in-Register.ensures c.args.file.now)
+returns-in-Register c = register c.args.script.now.bytes.now c.in-Register.is (c.push-b1.ensures c.args.script.now.bytes.now tt) (c.store_register-b2.ensures c.args.script.now.bytes.now) (c.action-in-Register.ensures c.args.script.now.bytes.now)

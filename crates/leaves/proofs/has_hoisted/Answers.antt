@@ -1,26 +1,27 @@
-use mathlib.Core.Path.{refl}
-use borrow.Author.Rules.{rules}
-use Rattle.leaves.proofs.Hoisting.{looked_none, looked_all, looked_found, looked_less, looked_more}
+use mathlib.Core.Path.{◌≡◌, refl, ◌∙◌}
+use Rattle.lowering.specs.Meaning.{hoisted}
+use Rattle.tree.specs.Within.{kid_at, list_at}
+use Rattle.leaves.proofs.Hoisting.{looked_all, looked_found, looked_more}
 use Rattle.leaves.proofs.has_hoisted.Goals as goal
-use Rattle.leaves.proofs.has_hoisted.Goals.{then-may_be_hoisted+else-is_named, else-may_be_hoisted}
 
-pub loop-left-init : goal.loop-left-init
-loop-left-init c = search (rules, looked_none)
+pub loop-tree-init : goal.loop-tree-init
+loop-tree-init c = rw c.into_iter-tree-iterator.ensures.into_iter_gives (refl, refl)
 
-pub returns-then-is_named : goal.returns-then-is_named
-returns-then-is_named c = search (rules, looked_found)
+pub returns-then-is_hoisted : goal.returns-then-is_hoisted
+returns-then-is_hoisted c =
+    let i = c.loop-tree.invariant in
+    let s = c.in-Some.ensures.steps in
+    let t = c.in-Some.tree in
+    let h : c.is_hoisted.result ≡ hoisted (kid_at t.script.bytes.now t.part 0).rec (list_at t.script.bytes.now t.part 0) = c.is_hoisted.ensures in
+    looked_found _ _ i.1 (rw i.0 at c.loop-tree.tree-iterator.within) s.1 (rw (s.0, i.0) at h) c.if-is_hoisted.true
 
-pub loop-left-smaller : goal.loop-left-smaller
-loop-left-smaller c = search (rules, looked_less)
-
-pub loop-left-preserved : goal.loop-left-preserved
-loop-left-preserved c =
-    elim c.if-may_be_hoisted.branch [
-      | then-may_be_hoisted+else-is_named w ↦
-          looked_more c.loop-left.invariant c.loop-left-test.true w.is_named.ensures w.if-is_named.false c.rest_of-before.ensures
-      | else-may_be_hoisted w ↦
-          looked_more c.loop-left.invariant c.loop-left-test.true (c.may_be_hoisted.ensures w.if-may_be_hoisted.false) refl c.rest_of-before.ensures
-    ]
+pub loop-tree-preserved : goal.loop-tree-preserved
+loop-tree-preserved c =
+    let i = c.loop-tree.invariant in
+    let s = c.in-Some.ensures.steps in
+    let t = c.in-Some.tree in
+    let h : c.is_hoisted.result ≡ hoisted (kid_at t.script.bytes.now t.part 0).rec (list_at t.script.bytes.now t.part 0) = c.is_hoisted.ensures in
+    (s.2.script ∙ i.0, looked_more _ _ i.1 (rw i.0 at c.loop-tree.tree-iterator.within) s.1 (rw (s.0, i.0) at h) c.if-is_hoisted.false (rw i.0 at s.2.part))
 
 pub returns : goal.returns
-returns c = search (rules, looked_all)
+returns c = looked_all _ _ c.loop-tree.invariant.1 c.in-None.ensures.steps.0

@@ -1,8 +1,8 @@
 use Rattle.codegen_state.proofs.Steps.{idle}
 use Rattle.leaves.proofs.jump_to.Goals as goal
 
-pub returns-in-To : goal.returns-in-To
-returns-in-To c = λ F. rw c.in-To.is (c.jump.ensures F)
+pub returns-in-Some : goal.returns-in-Some
+returns-in-Some c F = rw c.in-Some.is (c.jump.ensures F)
 
-pub returns-in-Nowhere : goal.returns-in-Nowhere
-returns-in-Nowhere c = λ F. rw c.in-Nowhere.is (idle c.requires)
+pub returns-in-None : goal.returns-in-None
+returns-in-None c F = rw c.in-None.is (idle c.requires)

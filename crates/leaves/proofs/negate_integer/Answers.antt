@@ -1,14 +1,12 @@
-use lib.IntN.{pos, ◌-ℤ◌}
 use mir.Syntax.{w32}
 use mir.ValLaws.{to_z-of_z}
-use Rattle.leaves.proofs.Numbers.{is_least, not_least, negative_fits, negative_word}
+use Rattle.leaves.proofs.Numbers.{is_least, not_least, negative_word}
 use Rattle.leaves.proofs.negate_integer.Goals as goal
 
-pub returns-then-n-eqminus2147483648 : goal.returns-then-n-eqminus2147483648
-returns-then-n-eqminus2147483648 c = λ F. rw (is_least c.args.n c.if-n-eqminus2147483648.true) (c.stop.ensures F _ c.requires)
+pub returns-in-Some : goal.returns-in-Some
+returns-in-Some c = λ F.
+    let h = rw (to_z-of_z w32 c.args.n c.ranges.n) at c.in-Some.ensures in
+    rw (not_least c.args.n c.ranges.n h.0, ← negative_word c.args.n c.ranges.n, ← h.1) (rw (to_z-of_z w32 c.in-Some.m (rw h.1 h.0)) at (c.push.ensures F tt))
 
-pub overflow_sub-n : goal.overflow_sub-n
-overflow_sub-n c = rw (to_z-of_z w32 c.args.n c.ranges.n) (negative_fits c.args.n c.ranges.n c.if-n-eqminus2147483648.false)
-
-pub returns : goal.returns
-returns c = λ F. rw (not_least c.args.n c.if-n-eqminus2147483648.false, ← negative_word c.args.n c.ranges.n) (rw (to_z-of_z w32 c.args.n c.ranges.n, to_z-of_z w32 (pos 0 -ℤ c.args.n) (negative_fits c.args.n c.ranges.n c.if-n-eqminus2147483648.false)) at (c.push.ensures F tt))
+pub returns-in-None : goal.returns-in-None
+returns-in-None c = λ F. rw (is_least c.args.n c.ranges.n (rw (to_z-of_z w32 c.args.n c.ranges.n) at c.in-None.ensures)) (c.stop.ensures F _ c.requires)

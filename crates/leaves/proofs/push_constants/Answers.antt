@@ -1,37 +1,48 @@
 use native.Mathlib.Omega.{arith}
 use Rattle.tree.proofs.ByKind.{rest_made}
-use Rattle.leaves.proofs.Args.{args_holds, args_less, args_named, args_constant, args_without, args_of_all}
+use Rattle.leaves.proofs.Args.{some_left, args_holds, args_less, args_named, args_constant, args_without, args_of_all}
 use Rattle.leaves.proofs.push_constants.Goals as goal
 
-pub without_voids-rest-requires : goal.without_voids-rest-requires
-without_voids-rest-requires c = c.requires.within
-
-pub loop-rest-init : goal.loop-rest-init
-loop-rest-init c = args_holds _ _ _ _ _ c.without_voids-rest.ensures.within c.requires.fine
+pub loop-left-init : goal.loop-left-init
+loop-left-init c =
+    let none = c.without_voids-left.ensures in
+    (none.script, args_of_all none.unchanged (args_holds _ _ _ _ _ none.unchanged.within c.requires.fine))
 
 pub returns-then-cur-ne0 : goal.returns-then-cur-ne0
-returns-then-cur-ne0 c = args_of_all c.without_voids-rest.ensures c.loop-rest.invariant
+returns-then-cur-ne0 c = record { script = c.loop-left.invariant.0; args = c.loop-left.invariant.1 }
 
-pub returns-then-row-ne32 : goal.returns-then-row-ne32
-returns-then-row-ne32 c = args_of_all c.without_voids-rest.ensures c.loop-rest.invariant
+pub returns-then-tree : goal.returns-then-tree
+returns-then-tree c = record { script = c.loop-left.invariant.0; args = c.loop-left.invariant.1 }
 
 pub read_constant-cur-requires : goal.read_constant-cur-requires
-read_constant-cur-requires c = record {
-  fine = c.loop-rest.invariant.fine;
-  l_value = c.loop-rest.invariant.within.layout;
-  file_len_bound = c.loop-rest.invariant.within.sound.short;
-  t = args_named c.loop-rest.invariant c.loop-rest-test.true c.last_tree-t.ensures c.if-row-ne32.false c.constant-c.ensures;
-  named = c.loop-rest.invariant.named c.requires.named;
-}
+read_constant-cur-requires c =
+    let i = c.loop-left.invariant in
+    record {
+      fine = i.1.fine;
+      l_value = c.args.t.now.within.layout;
+      file_len_bound = c.args.t.now.within.sound.short;
+      t = args_named i.1 (some_left c.loop-left-test.ensures) (rw i.0 at c.last_tree-tree.ensures) c.if-tree.false c.constant-c.ensures;
+      named = i.1.named c.requires.named;
+    }
 
-pub without_voids-rest-requires-in-loop-rest : goal.without_voids-rest-requires-in-loop-rest
-without_voids-rest-requires-in-loop-rest c = (args_constant c.loop-rest.invariant c.loop-rest-test.true c.last_tree-t.ensures c.if-row-ne32.false c.constant-c.ensures c.read_constant-cur.ensures c.read_constant-cur.auto.list).within
+pub invariant_of-before : goal.invariant_of-before
+invariant_of-before c =
+    let i = c.loop-left.invariant in
+    record { within = (args_constant i.1 (some_left c.loop-left-test.ensures) (rw i.0 at c.last_tree-tree.ensures) c.if-tree.false c.constant-c.ensures c.read_constant-cur.ensures c.read_constant-cur.auto.list).within }
 
-pub loop-rest-smaller : goal.loop-rest-smaller
-loop-rest-smaller c = omega (arith, c.without_voids-rest-in-loop-rest.ensures.fewer, args_less c.loop-rest.invariant c.loop-rest-test.true (rest_made _ _ _ c.loop-rest-test.true c.last_tree-t.ensures))
+pub loop-left-smaller : goal.loop-left-smaller
+loop-left-smaller c =
+    let i = c.loop-left.invariant in
+    let before = rest_made _ _ _ (some_left c.loop-left-test.ensures) (rw i.0 at c.last_tree-tree.ensures) in
+    omega (arith, c.without_voids-left-in-loop-left.ensures.unchanged.fewer, args_less i.1 (some_left c.loop-left-test.ensures) before)
 
-pub loop-rest-preserved : goal.loop-rest-preserved
-loop-rest-preserved c = args_without (args_constant c.loop-rest.invariant c.loop-rest-test.true c.last_tree-t.ensures c.if-row-ne32.false c.constant-c.ensures c.read_constant-cur.ensures c.read_constant-cur.auto.list) c.without_voids-rest-in-loop-rest.ensures
+pub loop-left-preserved : goal.loop-left-preserved
+loop-left-preserved c =
+    let i = c.loop-left.invariant in
+    let none = c.without_voids-left-in-loop-left.ensures in (
+      none.script,
+      args_without (args_constant i.1 (some_left c.loop-left-test.ensures) (rw i.0 at c.last_tree-tree.ensures) c.if-tree.false c.constant-c.ensures c.read_constant-cur.ensures c.read_constant-cur.auto.list) none.unchanged,
+    )
 
 pub returns : goal.returns
-returns c = args_of_all c.without_voids-rest.ensures c.loop-rest.invariant
+returns c = record { script = c.loop-left.invariant.0; args = c.loop-left.invariant.1 }

@@ -1,8 +1,9 @@
+use mathlib.Core.Path.{◌≡◌}
 use Rattle.leaves.specs.Args.{Args}
 use Rattle.leaves.proofs.push_constants.Given as goal
 
-abbrev pub invariant-loop-rest : goal.invariant-loop-rest
-invariant-loop-rest l = Args l.file l.l l.initial.list l.initial.rest l.initial.cur l.list l.rest l.cur
+abbrev pub invariant-loop-left : goal.invariant-loop-left
+invariant-loop-left l = (l.left.script ≡ l.t.script) × Args l.t.script.bytes.now l.t.script.layout l.initial.list l.t.part l.initial.cur l.list l.left.part l.cur
 
-abbrev pub decreases-loop-rest : goal.decreases-loop-rest
-decreases-loop-rest l = l.rest.n
+abbrev pub decreases-loop-left : goal.decreases-loop-left
+decreases-loop-left l = l.left.part.n

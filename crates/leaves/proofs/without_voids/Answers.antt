@@ -1,12 +1,14 @@
-use borrow.Author.Rules.{rules}
+use mathlib.Core.Path.{refl, sym, ◌∙◌}
 use Rattle.leaves.proofs.Args.{unchanged, void_less, void_out}
 use Rattle.leaves.proofs.without_voids.Goals as goal
 
-pub loop-l-init : goal.loop-l-init
-loop-l-init c = search (rules, unchanged)
+pub loop-left-init : goal.loop-left-init
+loop-left-init c = (refl, unchanged _ _ _ c.args.t.now.within)
 
-pub loop-l-smaller : goal.loop-l-smaller
-loop-l-smaller c = void_less _ _ _ (rw c.kind_at.ensures at c.loop-l-test.true) c.loop-l.invariant c.rest_of-before.ensures
+pub loop-left-smaller : goal.loop-left-smaller
+loop-left-smaller c = let i = c.loop-left.invariant in void_less _ _ _ (sym (rw i.0 at c.kind.ensures) ∙ c.loop-left-test.true) i.1 (rw i.0 at c.rest-left.ensures.part)
 
-pub loop-l-preserved : goal.loop-l-preserved
-loop-l-preserved c = void_out _ _ _ (rw c.kind_at.ensures at c.loop-l-test.true) c.loop-l.invariant c.rest_of-before.ensures
+pub loop-left-preserved : goal.loop-left-preserved
+loop-left-preserved c =
+    let i = c.loop-left.invariant in
+    (c.rest-left.ensures.script ∙ i.0, void_out _ _ _ (sym (rw i.0 at c.kind.ensures) ∙ c.loop-left-test.true) i.1 (rw i.0 at c.rest-left.ensures.part))

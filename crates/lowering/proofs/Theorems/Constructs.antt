@@ -19,6 +19,7 @@ use Rattle.pcode.specs.declared.Op.{Op}
 use Rattle.pcode.specs.declared.Op.TheVariants as op
 use Rattle.pcode.specs.Pcode as pcode
 use Rattle.pcode.specs.Pcode.{Integer, Float, Param, GotoFrame, row_of, up}
+use Rattle.std.specs.Prelude as found
 use Rattle.special_properties.specs.SpecialProperties.{names, same_spelling, first_from, get_special_property, null, undefined, same_bytes}
 use Rattle.lowering.specs.Builder.{M, Step, Result, ok, refused, bind, ◌>>=◌, ◌>>◌, pure, when, create_label, pops, truncate_stack}
 use Rattle.lowering.specs.Access.{Access, Variable, Object, Direct, SpecialProperty, for_name, for_property, for_constant, get_value, set_value, get_and_set_value, delete, call, call_new, ◌gives◌}
@@ -81,9 +82,9 @@ name_ok true b = tt
 name_ok false true = tt
 name_ok false false = tt
 
-property_ok : (name : Str) (p : Option ℕ) → AccessOk (property_access name p)
-property_ok name (some p) = tt
-property_ok name none = name_ok (same_bytes name null) (same_bytes name undefined)
+property_ok : (name : Str) (p : found.Option ℕ) → AccessOk (property_access name p)
+property_ok name (found.Some p) = tt
+property_ok name found.None = name_ok (same_bytes name null) (same_bytes name undefined)
 
 pub shape_access_ok : (T : Str → Type 0) (s : Shape) → ShapeOk T s → AccessOk (shape_access s)
 shape_access_ok T (constant (ConstantKind.Identifier s)) h = property_ok s (get_special_property s)
@@ -125,17 +126,17 @@ param_ok T z Rec.Default h = (z, lit< tt)
 param_ok T z Rec.Other h = (z, lit< tt)
 
 -- a property's number is below 22
-first_in : (i : ℕ) (xs : List Str) (name : Str) (p : ℕ) → first_from i xs name ≡ some p → p < i + length xs
+first_in : (i : ℕ) (xs : List Str) (name : Str) (p : ℕ) → first_from i xs name ≡ found.Some p → p < i + length xs
 unfolding first_from
 first_in i [] name p e = let z : ◌≡◌ {A = ℕ} 0 1 = cc in omega arith
 first_in i (x ∷ xs) name p e = go (same_spelling name x) e (first_in (suc i) xs name p)
   where
-    go : (b : Bool) → cond b (some i) (first_from (suc i) xs name) ≡ some p → (first_from (suc i) xs name ≡ some p → p < suc i + length xs) →
+    go : (b : Bool) → cond b (found.Some i) (first_from (suc i) xs name) ≡ found.Some p → (first_from (suc i) xs name ≡ found.Some p → p < suc i + length xs) →
         p < i + suc (length xs)
     go true e h = let q : i ≡ p = cc in omega arith
     go false e h = omega (arith, h e)
 
-property_small : (name : Str) (p : ℕ) → get_special_property name ≡ some p → p < 22
+property_small : (name : Str) (p : ℕ) → get_special_property name ≡ found.Some p → p < 22
 unfolding get_special_property names
 property_small name p e = first_in 0 names name p e
 
@@ -158,9 +159,9 @@ yields_name true b name = yields_gives _ _
 yields_name false true name = yields_gives _ _
 yields_name false false name = yields_gives _ _
 
-yields_property : (name : Str) (p : Option ℕ) → Yields (λ (x : Access). x ≡ property_access name p) (for_property name p)
-yields_property name (some p) = yields_gives _ _
-yields_property name none = yields_name (same_bytes name null) (same_bytes name undefined) name
+yields_property : (name : Str) (p : found.Option ℕ) → Yields (λ (x : Access). x ≡ property_access name p) (for_property name p)
+yields_property name (found.Some p) = yields_gives _ _
+yields_property name found.None = yields_name (same_bytes name null) (same_bytes name undefined) name
 
 pub yields_constant : (c : ConstantKind) → Yields (λ (x : Access). x ≡ constant_access c) (for_constant c)
 yields_constant (ConstantKind.String s) = yields_gives _ _
@@ -242,12 +243,12 @@ module _ {K : Context} where
     good_name false true name h = search good
     good_name false false name h = search good
 
-    good_property : (name : Str) (p : Option ℕ) → get_special_property name ≡ p → (K.ranges → K.text name) → Good K O [] (for_property name p)
-    good_property name (some p) e h =
+    good_property : (name : Str) (p : found.Option ℕ) → get_special_property name ≡ p → (K.ranges → K.text name) → Good K O [] (for_property name p)
+    good_property name (found.Some p) e h =
         let no_name : K.ranges → K.text [] = K.empty in
         let small : K.ranges → p < 2 ^ 32 = λ r. omega (arith, property_small name p e) in
         search good
-    good_property name none e h = good_name (same_bytes name null) (same_bytes name undefined) name h
+    good_property name found.None e h = good_name (same_bytes name null) (same_bytes name undefined) name h
 
     pub good_constant : (c : ConstantKind) → (K.ranges → ConstantOk K.text c) → Good K O [] (for_constant c)
     good_constant (ConstantKind.String s) h = search good

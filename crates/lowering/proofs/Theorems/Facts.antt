@@ -14,6 +14,7 @@ use Rattle.hir.specs.Hir.{Str, ConstantKind, EnumeratorTarget, ForCondition, Exp
 use Rattle.hir.specs.Tree.{Forest, more}
 use Rattle.pcode.specs.declared.Op.{Op}
 use Rattle.pcode.specs.Pcode.{Value, Null, Undefined, True, False, String, Integer, Float, Constant, Param, Header, DefineFunction, DefineFunction2, Plain, op, ConstantPool, StoreRegister, GotoFrame, GotoFrame2, GotoLabel, Action, Item}
+use Rattle.std.specs.Prelude as found
 use Rattle.special_properties.specs.SpecialProperties.{get_special_property, null, undefined, same_bytes}
 use Rattle.lowering.specs.Builder.{State, Limits}
 use Rattle.lowering.specs.Access.{Access, Variable, Object, Direct, SpecialProperty}
@@ -219,9 +220,9 @@ name_access true u = Direct
 name_access false true = Direct
 name_access false false = Variable
 
-abbrev pub property_access : Str → Option ℕ → Access
-property_access name (some p) = SpecialProperty
-property_access name none = name_access (same_bytes name null) (same_bytes name undefined)
+abbrev pub property_access : Str → found.Option ℕ → Access
+property_access name (found.Some p) = SpecialProperty
+property_access name found.None = name_access (same_bytes name null) (same_bytes name undefined)
 
 abbrev pub identifier_access : Str → Access
 identifier_access name = property_access name (get_special_property name)

@@ -1,32 +1,24 @@
-use Prim.Native.Nat.{◌+◌}
-use mathlib.Core.Path.{refl, sym, ◌∙◌}
-use native.Mathlib.Omega.{arith}
-use lib.Seq.{length-take-le}
-use borrow.Author.Rules.{rules}
-use Rattle.record_reader.proofs.Whole.{head_none, head_short, head_missing, head_cut, head_data_lem}
-use Rattle.record_reader.proofs.Positions.{byte_at}
+use Rattle.std.proofs.Common.{sym, ◌∙◌}
+use Rattle.record_reader.proofs.Whole.{head_past, head_none, head_short, head_unsized, head_cut, head_broken, head_whole}
 use Rattle.record_reader.proofs.head_at.Goals as goal
 
-pub returns-then-b-at : goal.returns-then-b-at
-returns-then-b-at c = head_none _ _ _ c.if-b-at.true c.no_record.ensures
+pub returns-in_err-get : goal.returns-in_err-get
+returns-in_err-get c = rw c.from_residual.ensures (head_past c.args.b.now c.args.at c.args.pool c.in_err-get.ensures.lookup.0)
 
-pub overflow_cast-result : goal.overflow_cast-result
-overflow_cast-result c = omega (arith, c.type_inv.b c.args.at)
+pub returns-in_err-code : goal.returns-in_err-code
+returns-in_err-code c = rw c.from_residual-in_err-code.ensures (head_none c.args.b.now c.args.at c.args.pool c.in_ok-get.ensures.lookup.0.2 c.in_err-code.ensures)
 
 pub returns-then-is_short : goal.returns-then-is_short
-returns-then-is_short c = head_short c.args.pool (byte_at c.args.b.now c.args.at (search rules) (omega (arith, c.type_inv.b c.args.at)) refl) c.if-b-at.false (sym c.is_short.ensures ∙ c.if-is_short.true) refl
+returns-then-is_short c = rw c.from.ensures (head_short c.args.b.now c.args.at c.args.pool c.in_ok-get.ensures.lookup.0.2 c.in_ok-code.ensures c.in_ok-get.ensures.lookup.0.0 (sym c.is_short.ensures ∙ c.if-is_short.true))
 
-pub returns-then-b-at-lt3 : goal.returns-then-b-at-lt3
-returns-then-b-at-lt3 c = head_missing c.args.pool (byte_at c.args.b.now c.args.at (search rules) (omega (arith, c.type_inv.b c.args.at)) refl) (sym c.is_short.ensures ∙ c.if-is_short.false) c.if-b-at-lt3.true c.no_record-then-b-at-lt3.ensures
+pub returns-in_err-size : goal.returns-in_err-size
+returns-in_err-size c = rw c.from_residual-in_err-size.ensures (head_unsized c.args.b.now c.args.at c.args.pool c.in_ok-get.ensures.lookup.0.2 c.in_ok-code.ensures (sym c.is_short.ensures ∙ c.if-is_short.false) c.in_err-size.ensures)
 
-pub returns-then-b-at-2 : goal.returns-then-b-at-2
-returns-then-b-at-2 c = head_cut c.args.pool (byte_at c.args.b.now c.args.at (search rules) (omega (arith, c.type_inv.b c.args.at)) refl) (sym c.is_short.ensures ∙ c.if-is_short.false) c.word-size.ensures c.if-b-at-2.true c.no_record-then-b-at-2.ensures
+pub returns-in_err-get-2 : goal.returns-in_err-get-2
+returns-in_err-get-2 c = rw c.from_residual-in_err-get-2.ensures (head_cut c.args.b.now c.args.at c.args.pool c.in_ok-get.ensures.lookup.0.2 c.in_ok-code.ensures (sym c.is_short.ensures ∙ c.if-is_short.false) c.in_ok-size.ensures c.from-size.ensures c.in_err-get-2.ensures.lookup.0)
 
-pub slice_bounds-with_data-end : goal.slice_bounds-with_data-end
-slice_bounds-with_data-end c = sym (length-take-le _ _ (omega (arith, c.if-b-at-2.false, c.if-b-at-lt3.false)))
-
-pub with_data-requires : goal.with_data-requires
-with_data-requires c = rw (length-take-le (c.args.at + 3 + c.word-size.result) c.args.b.now (omega (arith, c.if-b-at-2.false, c.if-b-at-lt3.false))) (omega arith)
+pub returns-in_err-kind : goal.returns-in_err-kind
+returns-in_err-kind c = rw c.from_residual-in_err-kind.ensures (head_broken c.args.b.now c.args.at c.args.pool c.in_ok-get.ensures.lookup.0.2 c.in_ok-code.ensures (sym c.is_short.ensures ∙ c.if-is_short.false) c.in_ok-size.ensures c.from-size.ensures c.in_ok-get-2.ensures.lookup.0.2 c.in_ok-get-2.ensures.lookup.0.1 c.in_ok-get.ensures.lookup.0.0 c.in_err-kind.ensures)
 
 pub returns : goal.returns
-returns c = head_data_lem c.args.pool (byte_at c.args.b.now c.args.at (search rules) (omega (arith, c.type_inv.b c.args.at)) refl) (sym c.is_short.ensures ∙ c.if-is_short.false) c.word-size.ensures _ (search rules) refl c.with_data.ensures
+returns c = head_whole c.args.b.now c.args.at c.args.pool c.in_ok-get.ensures.lookup.0.2 c.in_ok-code.ensures (sym c.is_short.ensures ∙ c.if-is_short.false) c.in_ok-size.ensures c.from-size.ensures c.in_ok-get-2.ensures.lookup.0.2 c.in_ok-get-2.ensures.lookup.0.1 c.in_ok-get.ensures.lookup.0.0 c.in_ok-kind.ensures

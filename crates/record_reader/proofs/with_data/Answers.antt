@@ -1,39 +1,30 @@
-use borrow.Author.Rules.{rules}
-use Rattle.record_reader.proofs.Whole.{by_code, other_code}
+use Rattle.std.proofs.Common.{ℕ, ◌≡◌, ◌⊎◌, inl, inr, Option}
+use Rattle.pcode.specs.Pcode.{Branching, Jump, If}
+use Rattle.action_format.specs.Bytes.{Bytes}
+use Rattle.action_format.specs.Decode.{read_branch}
+use Rattle.list_slice.specs.Entry.{branch_code}
+use Rattle.record_reader.specs.declared.Content.{Content}
+use Rattle.record_reader.specs.Steps.{whole, content_of}
+use Rattle.record_reader.specs.Shape.{data_reader}
 use Rattle.record_reader.proofs.with_data.Goals as goal
 
-pub returns-in-129 : goal.returns-in-129
-returns-in-129 c = by_code _ _ _ _ _ 0x81 c.in-129.is c.frame.ensures
-
 pub returns-in-135 : goal.returns-in-135
-returns-in-135 c = by_code _ _ _ _ _ 0x87 c.in-135.is c.register.ensures
-
-pub returns-in-136 : goal.returns-in-136
-returns-in-136 c = by_code _ _ _ _ _ 0x88 c.in-136.is c.pool_record.ensures
-
-pub returns-in-140 : goal.returns-in-140
-returns-in-140 c = by_code _ _ _ _ _ 0x8C c.in-140.is c.label.ensures
+unfolding data_reader
+returns-in-135 c = rw c.in-135.is (c.register.ensures c.args.at c.args.pool)
 
 pub returns-in-142 : goal.returns-in-142
-returns-in-142 c = by_code _ _ _ _ _ 0x8E c.in-142.is c.function2.ensures
-
-pub returns-in-150 : goal.returns-in-150
-returns-in-150 c = by_code _ _ _ _ _ 0x96 c.in-150.is c.push.ensures
-
-pub returns-in-153 : goal.returns-in-153
-returns-in-153 c = by_code _ _ _ _ _ 0x99 c.in-153.is c.branch-d.ensures
+unfolding data_reader
+returns-in-142 c = rw c.in-142.is (c.function2.ensures c.args.at c.args.pool)
 
 pub returns-in-155 : goal.returns-in-155
-returns-in-155 c = by_code _ _ _ _ _ 0x9B c.in-155.is c.function.ensures
+unfolding data_reader
+returns-in-155 c = rw c.in-155.is (c.function.ensures c.args.at c.args.pool)
 
-pub returns-in-157 : goal.returns-in-157
-returns-in-157 c = by_code _ _ _ _ _ 0x9D c.in-157.is c.branch-d-in-157.ensures
+branches : (p pool : ℕ) (d : Bytes) {code : ℕ} {r : Option Content} → (code ≡ 153) ⊎ (code ≡ 157) → ((b : Branching) → code ≡ branch_code b → r ≡ content_of p pool (whole (read_branch b d))) →
+    r ≡ content_of p pool (whole (data_reader code d))
+unfolding data_reader
+branches p pool d (inl e) f = rw e (f Jump e)
+branches p pool d (inr e) f = rw e (f If e)
 
-pub returns-in-158 : goal.returns-in-158
-returns-in-158 c = by_code _ _ _ _ _ 0x9E c.in-158.is c.call.ensures
-
-pub returns-in-159 : goal.returns-in-159
-returns-in-159 c = by_code _ _ _ _ _ 0x9F c.in-159.is c.play.ensures
-
-pub returns-in_default : goal.returns-in_default
-returns-in_default c = other_code _ _ _ _ _ c.no_record.ensures (search rules)
+pub returns-in-153 : goal.returns-in-153
+returns-in-153 c = branches c.args.at c.args.pool c.args.d.now c.in-153.is (λ b. c.branch-d.ensures b c.args.at c.args.pool)

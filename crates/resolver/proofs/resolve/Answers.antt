@@ -1,17 +1,27 @@
 -- What the passes find is what the definition says.
-use native.Mathlib.Omega.{arith}
 use Rattle.resolver.proofs.Stand.{stands}
 use Rattle.resolver.proofs.Sizing.{sized}
 use Rattle.resolver.proofs.Answers.{resolves}
+use Rattle.resolver.proofs.Passing.{answer_zero, answer_refused, answer_passed}
 use Rattle.resolver.proofs.resolve.Goals as goal
 
-pub refuse_or_fill-requires : goal.refuse_or_fill-requires
-refuse_or_fill-requires c = record {
-  ready = record { layout = c.requires.l_value; accepted = c.requires.lowered.accepted };
-  stands = stands c.requires.lowered (λ i. omega (arith, c.type_inv.file i));
-  sizes_len = c.requires.sizes_len;
-  offsets_len = c.requires.offsets_len;
-}
+pub clear_lists-requires : goal.clear_lists-requires
+clear_lists-requires c = stands c.requires c.args.lists.now.bytes
+
+pub returns-then-not-clear_lists : goal.returns-then-not-clear_lists
+returns-then-not-clear_lists c = λ h.
+    let l = c.args.lists.now in
+    resolves h l.bytes (answer_zero _ _ (rw l.counted at c.clear_lists.ensures) c.if-not-clear_lists.true (sized h l.bytes) _ _)
+
+pub measure_lists-requires : goal.measure_lists-requires
+measure_lists-requires c = stands c.requires c.args.lists.now.bytes
+
+pub returns-in_err-measure_lists : goal.returns-in_err-measure_lists
+returns-in_err-measure_lists c = λ h.
+    let l = c.args.lists.now in
+    resolves h l.bytes (answer_refused _ _ (rw l.counted at c.clear_lists.ensures) c.if-not-clear_lists.false c.measure_lists.ensures c.in_err-measure_lists.was _ c.from_residual.ensures.1 (sized h l.bytes))
 
 pub returns : goal.returns
-returns c = λ h. resolves h (λ i. omega (arith, c.type_inv.file i)) (c.refuse_or_fill.ensures (sized h (λ i. omega (arith, c.type_inv.file i))))
+returns c = λ h.
+    let l = c.args.lists.now in
+    resolves h l.bytes (answer_passed _ _ (rw l.counted at c.clear_lists.ensures) c.if-not-clear_lists.false c.measure_lists.ensures c.in_ok-measure_lists.was (sized h l.bytes))

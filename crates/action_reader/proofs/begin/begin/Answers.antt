@@ -1,14 +1,15 @@
-use mathlib.Core.Path.{refl}
 use borrow.Author.Tests.{not-true, not-false}
-use Rattle.action_reader.specs.Walked.{refused}
-use Rattle.action_reader.proofs.Beginning.{begin_unfit, begin_other, begin_pool}
+use Rattle.action_reader.proofs.Beginning.{begin_none, begin_unfit, begin_other, begin_pool}
 use Rattle.action_reader.proofs.begin.begin.Goals as goal
 
-pub returns-then-not-h : goal.returns-then-not-h
-returns-then-not-h c = λ o ol. refused c.no_pool.ensures (begin_unfit _ c.head_at-h.result c.head_at-h.ensures (not-true _ c.if-not-h.true))
+pub returns-in_err-h : goal.returns-in_err-h
+returns-in_err-h c = rw c.from_residual.ensures (begin_none c.args.bytes.now c.in_err-h.ensures)
 
-pub returns-in-Pool : goal.returns-in-Pool
-returns-in-Pool c = λ o ol. begin_pool _ _ c.args.table.now o c.head_at-h.result c.head_at-h.ensures (not-false _ c.if-not-h.false) _ c.in-Pool.is c.requires.in_bounds c.requires.list_value c.requires.table_len ol c.put.ensures refl c.fresh.ensures
+pub returns-then-not-h : goal.returns-then-not-h
+returns-then-not-h c = begin_unfit c.args.bytes.now c.in_ok-h.h c.in_ok-h.ensures (not-true _ c.if-not-h.true)
 
 pub returns-in_default : goal.returns-in_default
-returns-in_default c = λ o ol. refused c.no_pool-in_default.ensures (begin_other _ c.head_at-h.result c.head_at-h.ensures c.in_default.not-Pool)
+returns-in_default c = begin_other c.args.bytes.now c.in_ok-h.h c.in_ok-h.ensures c.in_default.not-Pool
+
+pub returns : goal.returns
+returns c = begin_pool c.args.bytes c.args.list.now c.in_ok-h.h c.in_ok-h.ensures (not-false _ c.if-not-h.false) c.in-Pool.strings c.in-Pool.is c.requires.in_bounds c.requires.list_value (rw c.from.ensures at c.put.ensures)

@@ -1,34 +1,24 @@
-use mathlib.Core.Path.{◌∙◌, sym}
-use native.Mathlib.Omega.{arith}
-use Rattle.action_reader.proofs.Pushing.{push_holds, taken, loop_safe, loop_more, push_done}
+use Rattle.std.proofs.Common.{arith}
+use Rattle.action_reader.proofs.Pushing.{push_holds, loop_safe, loop_more, push_done}
 use Rattle.action_reader.proofs.push.value_entries.Goals as goal
 
-pub loop-i-init : goal.loop-i-init
-loop-i-init c = push_holds
-
-pub slice_bounds-value-end : goal.slice_bounds-value-end
-slice_bounds-value-end c = sym (taken c.requires.values)
+pub loop-v-init : goal.loop-v-init
+loop-v-init c = push_holds
 
 pub overflow_sub-top : goal.overflow_sub-top
-overflow_sub-top c = (loop_safe c.loop-i.invariant c.requires.values c.loop-i-test.true c.requires.next_bound c.args.pool c.value-v.result c.value-v.ensures).room
+overflow_sub-top c = (loop_safe c.loop-v.invariant c.requires.values c.args.pool c.in-Some.v c.in-Some.ensures c.requires.near).room
 
 pub overflow_add-base : goal.overflow_add-base
-overflow_add-base c = omega (arith, (loop_safe c.loop-i.invariant c.requires.values c.loop-i-test.true c.requires.next_bound c.args.pool c.value-v.result c.value-v.ensures).code)
+overflow_add-base c = omega (arith, (loop_safe c.loop-v.invariant c.requires.values c.args.pool c.in-Some.v c.in-Some.ensures c.requires.near).code)
 
 pub overflow_cast-v : goal.overflow_cast-v
-overflow_cast-v c = omega (arith, (loop_safe c.loop-i.invariant c.requires.values c.loop-i-test.true c.requires.next_bound c.args.pool c.value-v.result c.value-v.ensures).first)
+overflow_cast-v c = omega (arith, (loop_safe c.loop-v.invariant c.requires.values c.args.pool c.in-Some.v c.in-Some.ensures c.requires.near).first)
 
-pub put-requires : goal.put-requires
-put-requires c = omega (arith, (loop_safe c.loop-i.invariant c.requires.values c.loop-i-test.true c.requires.next_bound c.args.pool c.value-v.result c.value-v.ensures).room, (loop_safe c.loop-i.invariant c.requires.values c.loop-i-test.true c.requires.next_bound c.args.pool c.value-v.result c.value-v.ensures).in_place, c.requires.in_bounds, c.requires.above_bound, c.loop-i.invariant.long)
+pub loop-v-smaller : goal.loop-v-smaller
+loop-v-smaller c = let z = loop_safe c.loop-v.invariant c.requires.values c.args.pool c.in-Some.v c.in-Some.ensures c.requires.near in omega (arith, z.later, z.inside)
 
-pub loop-i-smaller : goal.loop-i-smaller
-loop-i-smaller c = omega (arith, (loop_safe c.loop-i.invariant c.requires.values c.loop-i-test.true c.requires.next_bound c.args.pool c.value-v.result c.value-v.ensures).later, (loop_safe c.loop-i.invariant c.requires.values c.loop-i-test.true c.requires.next_bound c.args.pool c.value-v.result c.value-v.ensures).inside, taken c.requires.values)
-
-pub loop-i-preserved : goal.loop-i-preserved
-loop-i-preserved c = loop_more c.loop-i.invariant c.requires.values c.loop-i-test.true c.args.pool c.value-v.result c.value-v.ensures c.put.ensures
-
-pub shape_of-list : goal.shape_of-list
-shape_of-list c = c.loop-i.invariant.long
+pub loop-v-preserved : goal.loop-v-preserved
+loop-v-preserved c = loop_more c.loop-v.invariant c.requires.values c.args.pool c.in-Some.v c.in-Some.ensures c.put.ensures
 
 pub returns : goal.returns
-returns c = push_done c.loop-i.invariant (c.loop-i-test.false ∙ sym (taken c.requires.values))
+returns c = push_done c.loop-v.invariant c.args.pool c.in_default.ensures

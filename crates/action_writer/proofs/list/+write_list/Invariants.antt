@@ -1,11 +1,13 @@
+use Rattle.std.proofs.Common.{◌≡◌}
 use Rattle.action_writer.proofs.Building.{Building}
 use Rattle.action_writer.proofs.list.+write_list.Given as goal
 
 abbrev pub decreases-write_list : goal.decreases-write_list
 decreases-write_list l = l.j
 
-abbrev pub invariant-loop-i : goal.invariant-loop-i
-invariant-loop-i l = Building l.file l.l l.list l.sizes l.offsets l.j l.initial.output l.at l.output l.i l.next l.begun
-
-abbrev pub decreases-loop-i : goal.decreases-loop-i
-decreases-loop-i l = l.i
+abbrev pub invariant-loop-e : goal.invariant-loop-e
+invariant-loop-e l = record {
+  same_script : l.w.script ≡ l.initial.w.script;
+  same_output : l.w.output.ghost_name ≡ l.initial.w.output.ghost_name;
+  building : Building l.lists.script.bytes.now l.lists.script.layout l.lists.list.now l.tables.sizes l.tables.offsets l.j l.initial.w.output.now l.initial.w.at l.w.output.now l.e l.w.at l.begun;
+}

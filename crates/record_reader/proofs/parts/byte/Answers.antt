@@ -1,11 +1,8 @@
-use mathlib.Core.Path.{refl}
-use native.Mathlib.Omega.{arith}
-use borrow.Author.Rules.{rules}
-use Rattle.record_reader.proofs.Positions.{byte_at}
+use Rattle.record_reader.proofs.Front.{byte_none, byte_some}
 use Rattle.record_reader.proofs.parts.byte.Goals as goal
 
-pub overflow_cast-result : goal.overflow_cast-result
-overflow_cast-result c = omega (arith, c.type_inv.b c.args.at)
+pub returns-in_default : goal.returns-in_default
+returns-in_default c = byte_none _ c.in_default.len_below
 
 pub returns : goal.returns
-returns c = byte_at c.args.b.now c.args.at (search rules) (omega (arith, c.type_inv.b c.args.at)) refl
+returns c = byte_some _ c.type_inv.b c.in-len1-up.len_at_least

@@ -1,13 +1,9 @@
-use mathlib.Core.Path.{refl}
-use native.Mathlib.Omega.{arith}
-use Rattle.record_reader.proofs.Positions.{word_small, long_at}
+use Rattle.std.proofs.Common.{arith}
+use Rattle.record_reader.proofs.Front.{short, long_some}
 use Rattle.record_reader.proofs.parts.long.Goals as goal
 
-pub overflow_mul-result : goal.overflow_mul-result
-overflow_mul-result c = omega (arith, word_small c.word-low.ensures, word_small c.word-high.ensures)
-
-pub overflow_add-result : goal.overflow_add-result
-overflow_add-result c = omega (arith, word_small c.word-low.ensures, word_small c.word-high.ensures)
+pub returns-in_default : goal.returns-in_default
+returns-in_default c = short 4 _ c.in_default.len_below
 
 pub returns : goal.returns
-returns c = long_at c.word-low.ensures c.word-high.ensures refl
+returns c = long_some _ c.type_inv.b c.in-len4-up.len_at_least (omega arith)

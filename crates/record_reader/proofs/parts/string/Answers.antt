@@ -1,9 +1,8 @@
-use mathlib.Core.Path.{refl}
-use Rattle.record_reader.proofs.Positions.{step_fails, string_fails, string_reads}
+use Rattle.record_reader.proofs.Front.{string_ends, string_open}
 use Rattle.record_reader.proofs.parts.string.Goals as goal
 
-pub returns-then-b-end : goal.returns-then-b-end
-returns-then-b-end c = step_fails refl (string_fails c.string_end-end.ensures c.if-b-end.true)
+pub returns-in_err-end : goal.returns-in_err-end
+returns-in_err-end c = rw (c.from_residual.ensures, string_open _ c.in_err-end.ensures)
 
 pub returns : goal.returns
-returns c = string_reads c.string_end-end.ensures c.if-b-end.false c.is_utf8.ensures
+returns c = let m = c.is_utf8.ensures in string_ends _ _ c.in_ok-end.ensures m

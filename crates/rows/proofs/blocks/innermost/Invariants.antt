@@ -2,7 +2,7 @@ use Rattle.rows.proofs.Innermost.{InnerInv}
 use Rattle.rows.proofs.blocks.innermost.Given as goal
 
 abbrev pub invariant-loop-block : goal.invariant-loop-block
-invariant-loop-block l = InnerInv l.file l.l l.breaks l.continues l.initial.inner l.inner l.block
+invariant-loop-block l = InnerInv l.row.script l.lp l.row l.inner
 
 abbrev pub decreases-loop-block : goal.decreases-loop-block
-decreases-loop-block l = l.inner.n
+decreases-loop-block l = l.inner.part.n

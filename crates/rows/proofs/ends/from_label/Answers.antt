@@ -1,25 +1,15 @@
 use native.Mathlib.Omega.{arith}
+use Rattle.tree.proofs.Nodes.{row_known}
 use Rattle.rows.proofs.Kept.{kept_row, kept_some, kept_pop}
 use Rattle.rows.proofs.ends.from_label.Goals as goal
 
-pub overflow_sub-start : goal.overflow_sub-start
-overflow_sub-start c = omega (arith, c.requires.within.inside)
+pub overflow_sub-ends : goal.overflow_sub-ends
+overflow_sub-ends c = omega (arith, kept_some _ _ _ _ _ _ _ _ (λ e. omega arith) c.loop-n.invariant)
 
-pub loop-n-init : goal.loop-n-init
-loop-n-init c = (omega arith, λ lp last k. k)
-
-pub bounds-scratch-n : goal.bounds-scratch-n
-bounds-scratch-n c = omega (arith, c.loop-n.invariant.0, c.requires.top_in_bounds)
-
-pub overflow_sub-part : goal.overflow_sub-part
-overflow_sub-part c = omega (arith, kept_some _ _ _ _ _ _ _ _ c.loop-n-test.true (c.loop-n.invariant.1 _ _ c.requires.kept_of))
-
-pub kind_at-requires : goal.kind_at-requires
-kind_at-requires c = kept_row _ _ _ _ _ _ _ _ c.loop-n-test.true (c.loop-n.invariant.1 _ _ c.requires.kept_of)
+pub known_row-requires : goal.known_row-requires
+known_row-requires c =
+    let z = kept_some _ _ _ _ _ _ _ _ (λ e. omega arith) c.loop-n.invariant in
+    row_known _ _ _ (kept_row _ _ _ _ _ _ _ _ (λ e. omega arith) c.loop-n.invariant) _ (omega arith)
 
 pub loop-n-preserved : goal.loop-n-preserved
-loop-n-preserved c =
-    (omega (arith, c.loop-n.invariant.0), λ lp last x. kept_pop _ _ _ _ _ _ _ c.loop-n-test.true (c.loop-n.invariant.1 lp last x) (omega (arith, c.kind_at.ensures)))
-
-pub returns : goal.returns
-returns c = rw c.loop-n-test.false at (c.loop-n.invariant.1 _ _ c.requires.kept_of)
+loop-n-preserved c = kept_pop _ _ _ _ _ _ _ (λ e. omega arith) c.loop-n.invariant (rw c.known_row.ensures at c.if-known_row.false)

@@ -1,23 +1,28 @@
-use mathlib.Core.Path.{refl, ◌∙◌, sym}
+use Prim.Native.Nat.{◌+◌, ◌-◌}
+use mathlib.Core.Path.{◌≡◌, ◌∙◌, sym}
 use native.Mathlib.Omega.{arith}
 use Rattle.tree.proofs.Nodes.{row_known}
 use Rattle.rows.proofs.Passed.{passed_none, passed_end, passed_stop, passed_on}
 use Rattle.rows.proofs.quiet.is_passed.Goals as goal
 
-pub loop-left-init : goal.loop-left-init
-loop-left-init c = (omega arith, refl)
+pub loop-init : goal.loop-init
+loop-init c = (omega arith, let e : c.args.steps - 0 ≡ c.args.steps = omega arith in rw e)
 
 pub returns-then-e-start : goal.returns-then-e-start
-returns-then-e-start c = passed_end _ _ _ _ _ _ c.loop-left-test.true c.if-e-start.true ∙ sym c.loop-left.invariant.1
+returns-then-e-start c = rw (← c.rest-start.ensures.part) (passed_end _ _ _ _ _ _ (omega arith) c.if-e-start.true ∙ sym c.loop.invariant.1)
 
-pub passes-n-requires : goal.passes-n-requires
-passes-n-requires c = (omega arith, row_known _ _ _ c.requires _ (omega (arith, c.loop-left.invariant.0)))
+pub passes-requires : goal.passes-requires
+passes-requires c = (omega arith, row_known _ _ _ c.args.tree.now.within _ (omega (arith, c.loop.invariant.0)))
 
-pub returns-then-n-eq0 : goal.returns-then-n-eq0
-returns-then-n-eq0 c = passed_stop _ _ _ _ _ _ c.loop-left-test.true (omega (arith, c.if-e-start.false)) c.passes-n.ensures c.if-n-eq0.true ∙ sym c.loop-left.invariant.1
+pub returns-in_default : goal.returns-in_default
+returns-in_default c =
+    rw (← c.rest-start.ensures.part) (passed_stop _ _ _ _ _ _ (omega arith) c.if-e-start.false c.passes.ensures c.in_default.is ∙ sym c.loop.invariant.1)
 
-pub loop-left-preserved : goal.loop-left-preserved
-loop-left-preserved c = rw c.saturating_sub-e.ensures (omega (arith, c.loop-left.invariant.0), c.loop-left.invariant.1 ∙ passed_on _ _ _ _ _ _ c.loop-left-test.true (omega (arith, c.if-e-start.false)) c.passes-n.ensures c.if-n-eq0.false)
+pub loop-preserved : goal.loop-preserved
+loop-preserved c =
+    let e : c.args.steps - (c.loop.counter + 1) ≡ c.args.steps - c.loop.counter - 1 = omega arith in
+    rw (c.saturating_sub-e.ensures, e)
+    (omega (arith, c.loop.invariant.0), c.loop.invariant.1 ∙ passed_on _ _ _ _ _ _ (omega arith) c.if-e-start.false c.passes.ensures c.in-Some.is)
 
 pub returns : goal.returns
-returns c = passed_none _ _ _ _ _ _ c.loop-left-test.false ∙ sym c.loop-left.invariant.1
+returns c = rw (← c.rest-start.ensures.part) (passed_none _ _ _ _ _ _ (omega arith) ∙ sym c.loop.invariant.1)

@@ -1,20 +1,18 @@
+use Prim.Native.Nat.{◌<◌}
+use mathlib.Core.Bool.{false}
 use mathlib.Core.Path.{sym, ◌∙◌}
 use native.Mathlib.Omega.{arith}
 use Rattle.tree.proofs.Nodes.{row_known}
-use Rattle.rows.proofs.Passed.{expr_passed}
+use Rattle.rows.proofs.Passed.{expr_passed, expr_there}
 use Rattle.rows.proofs.quiet.is_quiet.Goals as goal
 
-pub kind_at-requires : goal.kind_at-requires
-kind_at-requires c = c.requires.within
-
 pub is_under-requires : goal.is_under-requires
-is_under-requires c = let i = c.requires.within.inside in let z = c.requires.fact.0 in (omega arith, row_known _ _ _ c.requires.within _ (omega arith))
+is_under-requires c =
+    let t = c.args.tree.now in
+    let z = expr_there _ _ _ t.within (sym c.kind.ensures ∙ c.if-kind.true) false false in
+    let i = t.within.inside in
+    let e : 0 < t.part.end = omega (arith, z) in
+    (e, row_known _ _ _ t.within _ (omega arith))
 
-pub returns-then-kind_at-eq3 : goal.returns-then-kind_at-eq3
-returns-then-kind_at-eq3 c = expr_passed _ _ _ c.requires.within c.requires.fact.0 (sym c.kind_at.ensures ∙ c.if-kind_at-eq3.true) _ _ c.requires.fact.1 c.is_under.ensures
-
-pub is_passed-requires : goal.is_passed-requires
-is_passed-requires c = c.requires.within
-
-pub returns : goal.returns
-returns c = c.is_passed.ensures
+pub returns-then-kind : goal.returns-then-kind
+returns-then-kind c = expr_passed _ _ _ c.args.tree.now.within (sym c.kind.ensures ∙ c.if-kind.true) _ _ c.is_under.ensures

@@ -1,29 +1,17 @@
-use Rattle.rows.proofs.Passed.{at_void, at_expr, at_break, at_continue, at_block, at_list}
+use Rattle.rows.proofs.Passed.{not_some, at_expr, at_break, at_continue, at_block, at_list}
 use Rattle.rows.proofs.quiet.passes.Goals as goal
 
-pub known_row-row-requires : goal.known_row-row-requires
-known_row-row-requires c = c.requires.1
+pub returns-then-row : goal.returns-then-row
+returns-then-row c = at_expr _ _ _ _ c.known_row-row.ensures c.if-row.true c.is_under.ensures c.then_some.ensures
 
-pub is_under-requires : goal.is_under-requires
-is_under-requires c = c.requires
+pub returns-then-row-2 : goal.returns-then-row-2
+returns-then-row-2 c = at_break _ _ _ _ c.known_row-row.ensures c.if-row-2.true (rw (not_some c.is_none.ensures) at c.then_some-then-row-2.ensures)
 
-pub returns-then-is_under : goal.returns-then-is_under
-returns-then-is_under c = at_void _ _ _ _ c.known_row-row.ensures c.if-row-eq3.true c.is_under.ensures c.if-is_under.true
+pub returns-then-row-3 : goal.returns-then-row-3
+returns-then-row-3 c = at_continue _ _ _ _ c.known_row-row.ensures c.if-row-3.true (rw (not_some c.is_none-then-row-3.ensures) at c.then_some-then-row-3.ensures)
 
-pub returns-then-row-eq3 : goal.returns-then-row-eq3
-returns-then-row-eq3 c = at_expr _ _ _ _ c.known_row-row.ensures c.if-row-eq3.true c.is_under.ensures c.if-is_under.false
-
-pub returns-then-row-eq8 : goal.returns-then-row-eq8
-returns-then-row-eq8 c = at_break _ _ _ _ c.known_row-row.ensures c.if-row-eq8.true c.bit.ensures
-
-pub returns-then-row-eq9 : goal.returns-then-row-eq9
-returns-then-row-eq9 c = at_continue _ _ _ _ c.known_row-row.ensures c.if-row-eq9.true c.bit-then-row-eq9.ensures
-
-pub is_under-requires-then-row-eq4 : goal.is_under-requires-then-row-eq4
-is_under-requires-then-row-eq4 c = c.requires
-
-pub returns-then-row-eq4 : goal.returns-then-row-eq4
-returns-then-row-eq4 c = at_block _ _ _ _ c.known_row-row.ensures c.if-row-eq4.true c.is_under-then-row-eq4.ensures c.bit-then-row-eq4.ensures
+pub returns-then-row-4 : goal.returns-then-row-4
+returns-then-row-4 c = at_block _ _ _ _ c.known_row-row.ensures c.if-row-4.true c.is_under-then-row-4.ensures c.then_some-then-row-4.ensures
 
 pub returns : goal.returns
-returns c = at_list _ _ _ _ c.known_row-row.ensures c.if-row-eq3.false c.if-row-eq8.false c.if-row-eq9.false c.if-row-eq4.false c.bit-2.ensures
+returns c = at_list _ _ _ _ c.known_row-row.ensures c.if-row.false c.if-row-2.false c.if-row-3.false c.if-row-4.false c.then_some-2.ensures

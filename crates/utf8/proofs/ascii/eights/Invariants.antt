@@ -4,8 +4,8 @@ use lib.ListN.{length}
 use Rattle.utf8.specs.Chars.{Passed}
 use Rattle.utf8.proofs.ascii.eights.Given as goal
 
-abbrev pub invariant-loop-i : goal.invariant-loop-i
-invariant-loop-i l = Passed l.s l.start l.i
+abbrev pub invariant-loop-word : goal.invariant-loop-word
+invariant-loop-word l = Passed l.s l.start l.i
 
-abbrev pub decreases-loop-i : goal.decreases-loop-i
-decreases-loop-i l = length l.s - l.i
+abbrev pub decreases-loop-word : goal.decreases-loop-word
+decreases-loop-word l = length l.s - l.i

@@ -1,11 +1,8 @@
 -- The loop's invariant: `count` is k only where the first k bytes can stand where they do.
-use Prim.Native.Nat.{◌-◌, ◌≤◌}
+use Prim.Native.Nat.{◌≤◌}
 use mathlib.Core.Path.{◌≡◌}
 use Rattle.utf8.specs.Chars.{Follows}
 use Rattle.utf8.proofs.mixed.is_window.Given as goal
 
 abbrev pub invariant-loop-k : goal.invariant-loop-k
-invariant-loop-k l = (l.k ≤ 16) × (l.count ≤ l.k) × (l.count ≡ l.k → Follows l.s l.i l.k)
-
-abbrev pub decreases-loop-k : goal.decreases-loop-k
-decreases-loop-k l = 16 - l.k
+invariant-loop-k l = (l.count ≤ l.k) × (l.count ≡ l.k → Follows l.s l.i l.k)

@@ -1,12 +1,6 @@
 use native.Mathlib.Omega.{arith}
-use Rattle.utf8.proofs.Windows.{follows_start, follows_on, past_to}
+use Rattle.utf8.proofs.Windows.{follows_on, past_to}
 use Rattle.utf8.proofs.mixed.windows.Goals as goal
-
-pub loop-i-init : goal.loop-i-init
-loop-i-init c = (omega arith, omega arith, follows_start _ _)
-
-pub is_window-requires : goal.is_window-requires
-is_window-requires c = c.loop-i.invariant.1
 
 pub returns-then-not-is_mixed : goal.returns-then-not-is_mixed
 returns-then-not-is_mixed c =

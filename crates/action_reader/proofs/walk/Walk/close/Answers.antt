@@ -1,0 +1,6 @@
+use Rattle.std.proofs.Common.{refl}
+use Rattle.action_reader.proofs.Ends.{close_law}
+use Rattle.action_reader.proofs.walk.Walk.close.Goals as goal
+
+pub returns : goal.returns
+returns c = λ low xs up ends g n. close_law c.requires.ready g n (c.in_ok-self.ensures low xs up ends g n) c.requires.base_nonzero refl c.put.ensures

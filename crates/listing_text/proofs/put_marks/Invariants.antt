@@ -1,9 +1,0 @@
--- `put_marks` is safe and ends.
-use Rattle.std.proofs.Common.{◌-◌, ◌≤◌}
-use Rattle.listing_text.proofs.put_marks.Given as goal
-
-abbrev pub invariant-loop-i : goal.invariant-loop-i
-invariant-loop-i g l = l.i ≤ 9
-
-abbrev pub decreases-loop-i : goal.decreases-loop-i
-decreases-loop-i g l = 9 - l.i

@@ -1,0 +1,5 @@
+use Rattle.resolver.proofs.Texts.{zero_free}
+use Rattle.resolver.proofs.text.Text.with.Goals as goal
+
+pub returns : goal.returns
+returns c = rw (c.contains.ensures.value, zero_free)

@@ -1,0 +1,69 @@
+// The compiled lists of an accepted script file, in the order in which they finish.
+ghost use Rattle.std.specs.Prelude.{◌≡◌, ◌≤◌, ◌<◌, length};
+ghost use Rattle.resolver.specs.Walk.{count_of, start_of, end_of};
+ghost use Rattle.script_records.specs.Layout.{layout_of};
+ghost use Rattle.script.specs.Rules.{check_of};
+ghost use Rattle.script.specs.Write.{Bytes};
+ghost use Rattle.resolver.specs.Texts.{Ready};
+
+use script_records::layout::{ScriptFile, layout_of};
+use slice_words::{ENDS_AT, POOL_AT};
+
+#[derive(Clone, Copy)]
+pub struct Lists<'a> {
+    pub script: ScriptFile<'a>,
+    pub list: &'a [u32],
+    pub count: usize,
+    pub ghost bytes: { Bytes script.bytes.now },
+    pub ghost ready: { Ready script.bytes.now script.layout },
+    pub ghost short: { length script.bytes.now ≤ 1048576 },
+    pub ghost long: { 16384 ≤ length list.now },
+    pub ghost counted: { count ≡ count_of list.now },
+}
+
+// How many lists there are: the last end that is not 0 is the top list's.
+fn count_lists(list: &[u32]) -> usize
+    requires { 16384 ≤ length list.now }
+    ensures { result ≡ count_of list.now }
+{
+    match list[ENDS_AT..POOL_AT].iter().rposition(|end| *end != 0) {
+        Some(last) => last + 1,
+        None => 0,
+    }
+}
+
+impl<'a> Lists<'a> {
+    pub fn new(file: &'a [u8], list: &'a [u32]) -> Lists<'a>
+        requires accepted { check_of file.now ≡ 0 }
+        requires long { 16384 ≤ length list.now }
+        ensures script { (result.script.bytes.now ≡ file.now) × (result.script.layout ≡ layout_of file.now) }
+        ensures list { result.list.now ≡ list.now }
+    {
+        let script = ScriptFile {
+            bytes: file,
+            layout: layout_of(file),
+        };
+        let count = count_lists(list);
+        Lists {
+            script,
+            list,
+            count,
+        }
+    }
+
+    // The entry after the list at this place.
+    pub fn end(&self, j: usize) -> usize
+        requires { j < 1024 }
+        ensures { result ≡ end_of self.now.list.now j }
+    {
+        self.list[ENDS_AT + j] as usize
+    }
+
+    // The list's last entry, which stands first.
+    pub fn start(&self, j: usize) -> usize
+        requires { j < 1024 }
+        ensures { result ≡ start_of self.now.list.now j }
+    {
+        if j == 0 { 0 } else { self.end(j - 1) }
+    }
+}

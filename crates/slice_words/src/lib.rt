@@ -1,0 +1,79 @@
+#![tactic(auto)]
+
+// The words of the list slice (docs/LISTS.md), and what they refer to in the script file.
+pub mod code;
+pub mod value;
+
+ghost use Rattle.std.specs.Prelude.{◌≡◌, ◌+◌, ◌*◌, ◌<◌, ◌≤◌, length};
+ghost use Rattle.script_records.specs.Layout.{layout_of};
+ghost use Rattle.list_slice.specs.File.{text_in};
+ghost use Rattle.slice_words.specs.Words.{entry_in};
+ghost use Rattle.slice_words.specs.References.{text_at, param_of};
+
+use hir::Record;
+use script_records::layout::ScriptFile;
+
+// Where the list ends and the pool words begin.
+pub const ENDS_AT: usize = 13312;
+
+pub const POOL_AT: usize = 14336;
+
+// The reference of an empty string that comes from no string of the file.
+pub const NO_STRING: u32 = 0xffff_ffff;
+
+#[derive(Clone, Copy)]
+pub struct Entry {
+    pub code: u32,
+    pub first: u32,
+    pub second: u32,
+}
+
+pub fn entry_at(list: &[u32], e: usize) -> Entry
+    requires { e * 3 + 2 < length list.now }
+    ensures { result ≡ entry_in list.now e }
+{
+    let at = e * 3;
+    Entry {
+        code: list[at],
+        first: list[at + 1],
+        second: list[at + 2],
+    }
+}
+
+// The string of a reference.
+#[tactic(auto, using(crate::proofs::Strings::string_short), unfolding(crate::specs::References::text_at, list_slice::specs::File::text_in))]
+pub fn text<'a>(script: &ScriptFile<'a>, reference: u32) -> &'a [u8]
+    ensures by_layout { result.now ≡ text_at script.now.bytes.now script.now.layout reference }
+    ensures in_file { script.now.layout ≡ layout_of script.now.bytes.now →
+        result.now ≡ text_in script.now.bytes.now reference }
+    ensures short { length result.now ≤ length script.now.bytes.now }
+{
+    if reference == NO_STRING {
+        return &script.bytes[0..0];
+    }
+    script.string(reference as usize)
+}
+
+// A parameter: the reference of its name, and its register, 0 for none.
+#[derive(Clone, Copy)]
+pub struct Param {
+    pub name: u32,
+    pub register: u32,
+}
+
+// A parameter's record holds its register plus 1, or 0 for none. Any other record is a parameter with no name.
+pub fn param_of(root: Record) -> Param
+    ensures { result ≡ param_of root }
+{
+    match root {
+        Record::Parameter { name, register } => Param {
+            name,
+            register: u32::from(register.saturating_sub(1)),
+        },
+        Record::ObjectField(name) => Param { name, register: 0 },
+        _ => Param {
+            name: NO_STRING,
+            register: 0,
+        },
+    }
+}

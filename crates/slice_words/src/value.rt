@@ -1,0 +1,14 @@
+// The types of pushed values. An index from 256 on makes a long constant.
+pub const STRING: u8 = 0;
+
+pub const REGISTER: u8 = 4;
+
+pub const BOOLEAN: u8 = 5;
+
+pub const FLOAT: u8 = 6;
+
+pub const INTEGER: u8 = 7;
+
+pub const CONSTANT: u8 = 8;
+
+pub const LONG_CONSTANT: u8 = 9;
