@@ -81,10 +81,6 @@ module _ (F : List ℕ) (l : Layout) (i : ℕ) where
       go zero h q = absurd (h refl)
       go (suc j) h q = rw (sub-one) at q
 
-  pub string_empty : {s e : ℕ} → s ≡ start_at F l i → e ≡ end_at F l i → e ≤ s → [] ≡ string_at F l i
-  unfolding string_at
-  string_empty {s} {e} p q h = let z : e - s ≡ 0 = omega arith in rw (← p, ← q, z)
-
   -- a part of the file, where the start and the end are kept inside it
   pub string_part : {s e : ℕ} → s ≡ start_at F l i → e ≡ end_at F l i →
       take (max (min s (length F)) (min e (length F)) - min s (length F)) (drop (min s (length F)) F) ≡ string_at F l i
