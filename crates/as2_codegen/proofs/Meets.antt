@@ -114,6 +114,9 @@ module _ {F : List ℕ} (accepted : check_of F ≡ 0) {p : Part} (is-part : p �
   pub generated_refusal : (w'' : List ℕ) → IsSome r.refused → {e : Refusal} → number_of e ≡ refusal_of r.refused → Generated F (Err e) w''
   generated_refusal w'' h {e} q = λ n room. refuses F n e (lowered_is n room ∙ refusal_is h ∙ ap refusal (sym q))
 
+pub the_words : {w w' v : List ℕ} → w' ≡ w → Copied w' v → Copied w v
+the_words e c = rw e at c
+
 -- the refusals before any statement
 
 short_slice : (F : List ℕ) (n : ℕ) → n < 16384 → lowered_with limits01 F n ≡ refusal 13

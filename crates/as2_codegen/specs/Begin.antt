@@ -5,12 +5,12 @@ use Rattle.script_records.specs.declared.part.Part.{Part}
 use Rattle.script_records.specs.Layout.{layout_of}
 use Rattle.script.specs.Rules.{check_of}
 use Rattle.lowering.specs.Builder.{limits01}
-use Rattle.lowering.specs.Statement.{start}
+use Rattle.lowering.specs.Statement.{start, no_loop, gen_statements}
 use Rattle.codegen_state.specs.declared.BuilderState.{BuilderState}
 use Rattle.codegen_state.specs.View.{state}
-use Rattle.codegen_state.specs.Does.{Fine, Named}
+use Rattle.codegen_state.specs.Does.{Fine, Named, Does}
 use Rattle.tree.specs.declared.Trees.{Trees}
-use Rattle.tree.specs.Handle.{file_of}
+use Rattle.tree.specs.Handle.{file_of, meanings_of}
 
 -- the definition's first state, with no list waiting
 pub record Begun (F : List ℕ) (b : BuilderState) (w : List ℕ) : Type 0 where
@@ -19,6 +19,13 @@ pub record Begun (F : List ℕ) (b : BuilderState) (w : List ℕ) : Type 0 where
   pub starts : state F b w ≡ start limits01
   pub base : b.base ≡ 4096
   pub unrefused : IsNone b.refused
+
+-- the state and the words after all statements of the trees, from the first ones
+pub record Made (t : Trees) (r : BuilderState) (w' : List ℕ) : Type 0 where
+  pub b : BuilderState
+  pub w : List ℕ
+  pub begun : Begun (file_of t) b w
+  pub does : Does (file_of t) (gen_statements no_loop (meanings_of t)) b w tt r w'
 
 -- the trees of the root list: all records before the root, which is the last
 abbrev pub statements_part : Layout → Part

@@ -8,10 +8,10 @@ ghost use Rattle.lowering.specs.Builder.{limits01};
 ghost use Rattle.lowering.specs.Statement.{no_loop, gen_statements};
 ghost use Rattle.list_slice.specs.Words.{zeros_of};
 ghost use Rattle.script_records.specs.Layout.{layout_of};
-ghost use Rattle.codegen_state.specs.Stop as stop;
+ghost use Rattle.codegen_state.specs.Stop as why;
 ghost use Rattle.tree.specs.Handle.{file_of, meanings_of};
 ghost use Rattle.statement.specs.Walk.{Walk, Walks};
-ghost use Rattle.as2_codegen.specs.Begin.{Begun, Statements};
+ghost use Rattle.as2_codegen.specs.Begin.{Begun, Made, Statements};
 ghost use Rattle.as2_codegen.specs.Lowering.{Lowers, Generated};
 
 use builder::entries::put;
@@ -115,8 +115,8 @@ fn generate_actions(t: &Trees, context: &mut ScriptContext)
 
 // No script marks a label twice.
 fn refusal(stop: Stop) -> Refusal
-    requires { stop.number_of stop ≤ 8 }
-    ensures { number_of result ≡ stop.number_of stop }
+    requires { why.number_of stop ≤ 8 }
+    ensures { number_of result ≡ why.number_of stop }
 {
     match stop {
         Stop::NotAssignable => Refusal::NotAssignable,
@@ -128,17 +128,28 @@ fn refusal(stop: Stop) -> Refusal
 }
 
 // The statements are generated into words of zeros, which take in the pool's index behind those of the list slice.
+fn generated<'a>(accepted: Accepted<'a>, words: &'a mut [u32]) -> CodeBuilder<'a>
+    requires in_bounds { 20480 ≤ length words.old }
+    requires words_value { words.old ≡ zeros_of (length words.old) }
+    ensures list { result.list.ghost_name ≡ words.entry.ghost_name }
+    ensures made { Made accepted.entry.statements result.state result.list.now }
+{
+    let mut context = begin(accepted.statements.script, words);
+    generate_actions(&accepted.statements, &mut context);
+    context.builder
+}
+
+// Their lists, in the words, or the refusal.
 fn generate(accepted: &Accepted, words: &mut [u32]) -> Result<(), Refusal>
     requires in_bounds { 20480 ≤ length words.old }
     requires words_value { words.old ≡ zeros_of (length words.old) }
     ensures { Generated (file_of accepted.now.statements) result words.new }
 {
-    let mut context = begin(accepted.statements.script, words);
-    generate_actions(&accepted.statements, &mut context);
-    let CodeBuilder { list, state } = context.builder;
-    if let Some(stop) = state.refused {
+    let builder = generated(*accepted, words);
+    if let Some(stop) = builder.state.refused {
         return Err(refusal(stop));
     }
+    let CodeBuilder { list, state } = builder;
     into_actions(list, state);
     Ok(())
 }
