@@ -14,9 +14,9 @@ ghost use Rattle.statement.specs.Walk.{Walk, Walks};
 ghost use Rattle.as2_codegen.specs.Begin.{Begun, Made, Statements};
 ghost use Rattle.as2_codegen.specs.Lowering.{Lowers, Generated};
 
+use builder::builder::CodeBuilder;
 use builder::entries::put;
 use builder::finish::into_actions;
-use builder::builder::CodeBuilder;
 use codegen_state::{BuilderState, CONSTANT_POOL, MAX_ENTRIES, Stop};
 use constants::context::ScriptContext;
 use refusal::Refusal;

@@ -19,7 +19,7 @@ use Rattle.tree.specs.Handle.{file_of}
 use Rattle.tree.proofs.Nodes.{is_node, no_trees}
 use Rattle.tree.proofs.Meanings.{width_less}
 use Rattle.operators.proofs.Shapes.{shape_is, literal_is, shape_named}
-use Rattle.builder.proofs.Body.{begun_fine, begun_named, ready, function_done}
+use Rattle.builder.proofs.Body.{ready, function_done}
 use Rattle.access.proofs.Texts.{text_is}
 use Rattle.rows.specs.Rows.{loop_of}
 use Rattle.leaves.proofs.Args.{some_left, expr_at, args_again, args_less, args_stopped, args_done}
@@ -31,7 +31,6 @@ use mir.ValLaws.{to_z-of_z}
 use mir.Syntax.{w32}
 use Prim.Native.Nat.{ℕ}
 use Rattle.statement.proofs.+ring.Goals as goal
-
 
 pub adjust-adjust-requires : goal.adjust-adjust-requires
 adjust-adjust-requires t c = (omega (arith, c.decreases, c.requires.fits, c.for_expr-old.auto.scratch, rank_least c.args.discard, rank_kept c.args.discard c.args.affix c.keeps_old.ensures c.if-keeps_old.true), walk (built {d = c.for_expr-old.new.context} (c.get_value.ensures (file_of c.args.t.now)).keeps.list (walked c.for_expr-old.ensures start)) c.requires.script (omega (arith, c.requires.fits, c.for_expr-old.auto.scratch, rank_least c.args.discard)))
@@ -68,14 +67,14 @@ args-loop-left-init t c = (c.push_constants-left.ensures, refl)
 
 pub args-loop-left-preserved : goal.args-loop-left-preserved
 args-loop-left-preserved t c = (
-      record {
-        trees = c.rest-left.ensures.script ∙ c.loop-left.invariant.0.trees;
-        script = c.gen_expr.ensures.script ∙ c.loop-left.invariant.0.script;
-        same_list = same_list_then c.loop-left.invariant.0.same_list c.gen_expr.ensures.same_list;
-        args = args_again c.loop-left.invariant.0.args (some_left c.loop-left-test.ensures) (rw c.loop-left.invariant.0.trees at c.rest-left.ensures.part) (rw c.loop-left.invariant.0.trees at c.gen_expr.ensures.does) c.gen_expr.ensures.same_list.long;
-      },
-      c.gen_expr.auto.scratch ∙ c.loop-left.invariant.1,
-    )
+  record {
+    trees = c.rest-left.ensures.script ∙ c.loop-left.invariant.0.trees;
+    script = c.gen_expr.ensures.script ∙ c.loop-left.invariant.0.script;
+    same_list = same_list_then c.loop-left.invariant.0.same_list c.gen_expr.ensures.same_list;
+    args = args_again c.loop-left.invariant.0.args (some_left c.loop-left-test.ensures) (rw c.loop-left.invariant.0.trees at c.rest-left.ensures.part) (rw c.loop-left.invariant.0.trees at c.gen_expr.ensures.does) c.gen_expr.ensures.same_list.long;
+  },
+  c.gen_expr.auto.scratch ∙ c.loop-left.invariant.1,
+)
 
 pub args-loop-left-smaller : goal.args-loop-left-smaller
 args-loop-left-smaller t c = args_less c.loop-left.invariant.0.args (some_left c.loop-left-test.ensures) (rw c.loop-left.invariant.0.trees at c.rest-left.ensures.part)
@@ -130,9 +129,9 @@ each-loop-top-init t c = (pop_holds c.args.context.now.builder.fine (omega (arit
 
 pub each-loop-top-preserved : goal.each-loop-top-preserved
 each-loop-top-preserved t c = (
-      pop_again c.loop-top.invariant.0 c.one.new.scratch c.loop-top-test.true c.one.ensures.does c.element-e.ensures (ap (λ (k : ℕ). c.loop-top.seen + k) (c.from-seen.ensures ∙ c.is_labelled.ensures)) (ap (λ (k : ℕ). c.loop-top.cases + k) (c.from-cases.ensures ∙ c.is_case.ensures)) c.one.ensures.same_list.long c.one.auto.scratch,
-      walked c.one.ensures c.loop-top.invariant.1,
-    )
+  pop_again c.loop-top.invariant.0 c.one.new.scratch c.loop-top-test.true c.one.ensures.does c.element-e.ensures (ap (λ (k : ℕ). c.loop-top.seen + k) (c.from-seen.ensures ∙ c.is_labelled.ensures)) (ap (λ (k : ℕ). c.loop-top.cases + k) (c.from-cases.ensures ∙ c.is_case.ensures)) c.one.ensures.same_list.long c.one.auto.scratch,
+  walked c.one.ensures c.loop-top.invariant.1,
+)
 
 pub each-offset_bounds-scratch-top : goal.each-offset_bounds-scratch-top
 each-offset_bounds-scratch-top t c = omega (arith, (pop_top c.loop-top.invariant.0 c.loop-top-test.true).room, c.args.t.now.within.inside, c.args.t.now.within.known, c.args.t.now.within.sound.few)
