@@ -1,6 +1,6 @@
 -- Steps of a context, one after the other.
 use Prim.Native.Nat.{ℕ, ◌≤◌}
-use mathlib.Core.Path.{◌≡◌, refl, sym, ◌∙◌}
+use mathlib.Core.Path.{◌≡◌, refl, ◌∙◌}
 use Rattle.script_records.specs.Layout.{layout_of}
 use Rattle.lowering.specs.Builder.{M}
 use Rattle.codegen_state.specs.Index.{Indexed}

@@ -583,6 +583,7 @@ fn gen_unary_op(
     match o {
         UnaryOperator::Sub => {
             let node = t.node();
+            // `Some(Literal::String(_)) | None` as one arm would give the proof no fact of either.
             match literal_of(node.root) {
                 Some(Literal::Integer(n)) => negate_integer(&mut context.builder, n),
                 Some(Literal::Float(low, high)) => negate_float(&mut context.builder, low, high),
@@ -718,6 +719,7 @@ fn goto(t: &Trees, context: &mut ScriptContext, scratch: &mut [usize], play: boo
     ensures { Walks t.now (statement.gen_goto_frame (kid_of t.now 0) play (literal (shape_of (kid_of t.now 0).rec))) context.old tt context.new }
 {
     let node = t.node();
+    // `Some(Literal::Float(_, _)) | None` as one arm would give the proof no fact of either.
     match literal_of(node.root) {
         Some(Literal::String(s)) => {
             context.builder.goto_label(s);

@@ -19,7 +19,7 @@ use Rattle.tree.specs.Handle.{file_of}
 use Rattle.tree.proofs.Nodes.{is_node, no_trees}
 use Rattle.tree.proofs.Meanings.{width_less}
 use Rattle.operators.proofs.Shapes.{shape_is, literal_is, shape_named}
-use Rattle.builder.proofs.Body.{begun_fine, begun_named, ready, function_done}
+use Rattle.builder.proofs.Body.{ready, function_done}
 use Rattle.access.proofs.Texts.{text_is}
 use Rattle.rows.specs.Rows.{loop_of}
 use Rattle.leaves.proofs.Args.{some_left, expr_at, args_again, args_less, args_stopped, args_done}
