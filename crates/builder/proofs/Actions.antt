@@ -1,15 +1,11 @@
 -- The actions that codes and their first words say, and the stack sizes after them.
-use Prim.Native.Nat.{ℕ, ◌+◌, ◌-◌}
+use Prim.Native.Nat.{ℕ}
 use mathlib.Core.Path.{◌≡◌, refl}
 use mathlib.Core.List.{List}
 use mathlib.Core.Bool.{Bool, true, false, ◌&&◌}
-use native.Mathlib.Omega.{arith}
 use lib.Dec.{T}
 use Rattle.pcode.specs.declared.Op.{Op}
-use Rattle.pcode.specs.declared.Row.{Row}
-use Rattle.pcode.specs.Pcode as pcode
-use Rattle.pcode.specs.Pcode.{Plain, Branching, Action, moved, row_of}
-use Rattle.pcode.specs.Moves.{Moves}
+use Rattle.pcode.specs.Pcode.{Plain, Branching, Action, row_of}
 use Rattle.list_slice.specs.Entry.{Piece, bit, branch_code}
 use Rattle.list_slice.specs.File.{names_string, text_in}
 use Rattle.codegen_state.specs.Does.{Says}
@@ -36,11 +32,3 @@ module _ (F : List ℕ) where
 
   pub branch_says : (k : Branching) (l : ℕ) → Says F (branch_code k) l (Action.branch k l)
   branch_says k l = record { piece = Piece.branch k l; entry_is = refl; adds = λ is. refl; is_good = tt }
-
--- the size after an action of the table
-
-pub size_up : {r : Row} {s : pcode.Row} (z : ℕ) {low : ℕ} → Moves r s → low ≡ z - r.down → r.up ≡ true → low + 1 ≡ moved s.delta z
-size_up z m e u = rw (m.size z, u, e)
-
-pub size_level : {r : Row} {s : pcode.Row} (z : ℕ) {low : ℕ} → Moves r s → low ≡ z - r.down → r.up ≡ false → low ≡ moved s.delta z
-size_level z m e u = rw (m.size z, u, e) (omega arith)

@@ -14,7 +14,7 @@ ghost use Rattle.builder.specs.Values.{IsValue};
 
 use crate::entries::{grow, refuse};
 use codegen_state::CodeBuilder;
-use pcode::{Label, Op, PushValue, Row, row_of};
+use pcode::{Label, Op, PushValue, row_of};
 
 // An action of a code and its first word, after which the stack has this size.
 fn emit(list: &mut [u32], b: CodeBuilder, code: u32, first: u32, size: u32) -> CodeBuilder
@@ -44,12 +44,8 @@ pub fn action(list: &mut [u32], b: CodeBuilder, o: Op) -> CodeBuilder
     ensures { (F : List ℕ) → Does F (steps.action o) b list.old tt result list.new }
 {
     let row = row_of(o);
-    let low = minus(b.size, row.down);
-    let up = row.up;
-    if up {
-        return emit(list, b, row.code, 0, low + 1);
-    }
-    emit(list, b, row.code, 0, low)
+    let size = row.delta.moved(b.size);
+    emit(list, b, row.code, 0, size)
 }
 
 // An action whose caller says by how much the stack falls.

@@ -1,13 +1,10 @@
--- What a row of the code's table stands for.
-use Rattle.std.specs.Prelude.{ℕ, ◌+◌, ◌-◌, ◌≡◌, Bool, true, false}
-use Rattle.pcode.specs.declared.Row.{Row}
+-- What a change of the stack size stands for.
+use Rattle.pcode.specs.declared.Delta.{Delta}
+use Rattle.pcode.specs.declared.Delta.TheVariants.{Down, Level, Up}
 use Rattle.pcode.specs.Pcode as pcode
-use Rattle.pcode.specs.Pcode.{moved}
+use Rattle.pcode.specs.Pcode.{up, down}
 
-abbrev pub bit : Bool → ℕ
-bit true = 1
-bit false = 0
-
-pub record Moves (r : Row) (s : pcode.Row) : Type 0 where
-  pub code : r.code ≡ s.code
-  pub size : (z : ℕ) → moved s.delta z ≡ z - r.down + bit r.up
+abbrev pub delta_of : Delta → pcode.Delta
+delta_of (Down n) = down n
+delta_of Level = up 0
+delta_of Up = up 1

@@ -1,8 +1,9 @@
 #![tactic(auto)]
 
 // The actions of `pcode.rs` that lowering emits.
-ghost use Rattle.pcode.specs.Pcode.{Delta, row, row_of};
-ghost use Rattle.pcode.specs.Moves.{Moves};
+ghost use Rattle.std.specs.Prelude.{◌≡◌, ◌+◌, ◌<◌, ◌≤◌};
+ghost use Rattle.pcode.specs.Pcode.{row_of, moved};
+ghost use Rattle.pcode.specs.Moves.{delta_of};
 
 // An action without operands, by its code.
 #[derive(Clone, Copy)]
@@ -106,122 +107,123 @@ pub struct Position(pub u32);
 #[derive(Clone, Copy)]
 pub struct ByteOffset(pub u32);
 
-// An action's code and how it moves the tracked stack size (`stack_delta`): down, but not below 0, and then up by one or not.
+// A change of the tracked stack size (`stack_delta`), which never falls below 0.
+#[derive(Clone, Copy)]
+pub enum Delta {
+    Down(u32),
+    Level,
+    Up,
+}
+
+impl Delta {
+    // The size that a size becomes.
+    pub fn moved(self, size: u32) -> u32
+        requires { size < 4294967295 }
+        ensures value { result ≡ moved (delta_of self) size }
+        ensures bound { result ≤ size + 1 }
+    {
+        match self {
+            Delta::Down(down) => size.saturating_sub(down),
+            Delta::Level => size,
+            Delta::Up => size + 1,
+        }
+    }
+}
+
+// An action's code and what it does to the stack.
 #[derive(Clone, Copy)]
 pub struct Row {
     pub code: u32,
-    pub down: u32,
-    pub up: bool,
+    pub delta: Delta,
 }
 
-fn falling(code: u32, down: u32) -> Row
-    ensures { Moves result (row code (Delta.down down)) }
-{
-    Row {
-        code,
-        down,
-        up: false,
-    }
-}
-
-fn rising(code: u32) -> Row
-    ensures { Moves result (row code (Delta.up 1)) }
-{
-    Row {
-        code,
-        down: 0,
-        up: true,
-    }
-}
-
-fn level(code: u32) -> Row
-    ensures { Moves result (row code (Delta.up 0)) }
-{
-    Row {
-        code,
-        down: 0,
-        up: false,
+impl Row {
+    fn new(code: u32, delta: Delta) -> Row
+        ensures { result ≡ record { code = code; delta = delta } }
+    {
+        Row { code, delta }
     }
 }
 
 // The callers of CallFunction, CallMethod, InitArray, InitObject, NewMethod and StartDrag say their own delta.
 pub fn row_of(o: Op) -> Row
-    ensures { Moves result (row_of o) }
+    ensures code { result.code ≡ (row_of o).code }
+    ensures delta { delta_of result.delta ≡ (row_of o).delta }
 {
     match o {
-        Op::NextFrame => level(0x04),
-        Op::PrevFrame => level(0x05),
-        Op::Play => level(0x06),
-        Op::Stop => level(0x07),
-        Op::ToggleQuality => level(0x08),
-        Op::StopSounds => level(0x09),
-        Op::Subtract => falling(0x0B, 1),
-        Op::Multiply => falling(0x0C, 1),
-        Op::Divide => falling(0x0D, 1),
-        Op::And => falling(0x10, 1),
-        Op::Or => falling(0x11, 1),
-        Op::Not => level(0x12),
-        Op::StringEquals => falling(0x13, 1),
-        Op::StringLength => level(0x14),
-        Op::StringExtract => falling(0x15, 2),
-        Op::Pop => falling(0x17, 1),
-        Op::ToInteger => level(0x18),
-        Op::GetVariable => level(0x1C),
-        Op::SetVariable => falling(0x1D, 2),
-        Op::StringAdd => falling(0x21, 1),
-        Op::GetProperty => falling(0x22, 1),
-        Op::SetProperty => falling(0x23, 3),
-        Op::CloneSprite => falling(0x24, 3),
-        Op::RemoveSprite => falling(0x25, 1),
-        Op::Trace => falling(0x26, 1),
-        Op::StartDrag => level(0x27),
-        Op::EndDrag => level(0x28),
-        Op::StringLess => falling(0x29, 1),
-        Op::Throw => falling(0x2A, 1),
-        Op::CastOp => falling(0x2B, 1),
-        Op::RandomNumber => level(0x30),
-        Op::MBStringLength => level(0x31),
-        Op::CharToAscii => level(0x32),
-        Op::AsciiToChar => level(0x33),
-        Op::GetTime => rising(0x34),
-        Op::MBStringExtract => falling(0x35, 2),
-        Op::MBCharToAscii => level(0x36),
-        Op::MBAsciiToChar => level(0x37),
-        Op::Delete => falling(0x3A, 2),
-        Op::Delete2 => falling(0x3B, 1),
-        Op::DefineLocal => falling(0x3C, 2),
-        Op::CallFunction => level(0x3D),
-        Op::Return => falling(0x3E, 1),
-        Op::Modulo => falling(0x3F, 1),
-        Op::NewObject => rising(0x40),
-        Op::DefineLocal2 => falling(0x41, 1),
-        Op::InitArray => level(0x42),
-        Op::InitObject => level(0x43),
-        Op::TypeOf => level(0x44),
-        Op::TargetPath => level(0x45),
-        Op::Add2 => falling(0x47, 1),
-        Op::Less2 => falling(0x48, 1),
-        Op::Equals2 => falling(0x49, 1),
-        Op::ToNumber => level(0x4A),
-        Op::ToString => level(0x4B),
-        Op::PushDuplicate => rising(0x4C),
-        Op::GetMember => falling(0x4E, 1),
-        Op::SetMember => falling(0x4F, 3),
-        Op::Increment => level(0x50),
-        Op::Decrement => level(0x51),
-        Op::CallMethod => level(0x52),
-        Op::NewMethod => level(0x53),
-        Op::InstanceOf => falling(0x54, 1),
-        Op::Enumerate2 => level(0x55),
-        Op::BitAnd => falling(0x60, 1),
-        Op::BitOr => falling(0x61, 1),
-        Op::BitXor => falling(0x62, 1),
-        Op::BitLShift => falling(0x63, 1),
-        Op::BitRShift => falling(0x64, 1),
-        Op::BitURShift => falling(0x65, 1),
-        Op::StrictEquals => falling(0x66, 1),
-        Op::Greater => falling(0x67, 1),
-        Op::StringGreater => falling(0x68, 1),
-        Op::Call => falling(0x9E, 1),
+        Op::NextFrame => Row::new(0x04, Delta::Level),
+        Op::PrevFrame => Row::new(0x05, Delta::Level),
+        Op::Play => Row::new(0x06, Delta::Level),
+        Op::Stop => Row::new(0x07, Delta::Level),
+        Op::ToggleQuality => Row::new(0x08, Delta::Level),
+        Op::StopSounds => Row::new(0x09, Delta::Level),
+        Op::Subtract => Row::new(0x0B, Delta::Down(1)),
+        Op::Multiply => Row::new(0x0C, Delta::Down(1)),
+        Op::Divide => Row::new(0x0D, Delta::Down(1)),
+        Op::And => Row::new(0x10, Delta::Down(1)),
+        Op::Or => Row::new(0x11, Delta::Down(1)),
+        Op::Not => Row::new(0x12, Delta::Level),
+        Op::StringEquals => Row::new(0x13, Delta::Down(1)),
+        Op::StringLength => Row::new(0x14, Delta::Level),
+        Op::StringExtract => Row::new(0x15, Delta::Down(2)),
+        Op::Pop => Row::new(0x17, Delta::Down(1)),
+        Op::ToInteger => Row::new(0x18, Delta::Level),
+        Op::GetVariable => Row::new(0x1C, Delta::Level),
+        Op::SetVariable => Row::new(0x1D, Delta::Down(2)),
+        Op::StringAdd => Row::new(0x21, Delta::Down(1)),
+        Op::GetProperty => Row::new(0x22, Delta::Down(1)),
+        Op::SetProperty => Row::new(0x23, Delta::Down(3)),
+        Op::CloneSprite => Row::new(0x24, Delta::Down(3)),
+        Op::RemoveSprite => Row::new(0x25, Delta::Down(1)),
+        Op::Trace => Row::new(0x26, Delta::Down(1)),
+        Op::StartDrag => Row::new(0x27, Delta::Level),
+        Op::EndDrag => Row::new(0x28, Delta::Level),
+        Op::StringLess => Row::new(0x29, Delta::Down(1)),
+        Op::Throw => Row::new(0x2A, Delta::Down(1)),
+        Op::CastOp => Row::new(0x2B, Delta::Down(1)),
+        Op::RandomNumber => Row::new(0x30, Delta::Level),
+        Op::MBStringLength => Row::new(0x31, Delta::Level),
+        Op::CharToAscii => Row::new(0x32, Delta::Level),
+        Op::AsciiToChar => Row::new(0x33, Delta::Level),
+        Op::GetTime => Row::new(0x34, Delta::Up),
+        Op::MBStringExtract => Row::new(0x35, Delta::Down(2)),
+        Op::MBCharToAscii => Row::new(0x36, Delta::Level),
+        Op::MBAsciiToChar => Row::new(0x37, Delta::Level),
+        Op::Delete => Row::new(0x3A, Delta::Down(2)),
+        Op::Delete2 => Row::new(0x3B, Delta::Down(1)),
+        Op::DefineLocal => Row::new(0x3C, Delta::Down(2)),
+        Op::CallFunction => Row::new(0x3D, Delta::Level),
+        Op::Return => Row::new(0x3E, Delta::Down(1)),
+        Op::Modulo => Row::new(0x3F, Delta::Down(1)),
+        Op::NewObject => Row::new(0x40, Delta::Up),
+        Op::DefineLocal2 => Row::new(0x41, Delta::Down(1)),
+        Op::InitArray => Row::new(0x42, Delta::Level),
+        Op::InitObject => Row::new(0x43, Delta::Level),
+        Op::TypeOf => Row::new(0x44, Delta::Level),
+        Op::TargetPath => Row::new(0x45, Delta::Level),
+        Op::Add2 => Row::new(0x47, Delta::Down(1)),
+        Op::Less2 => Row::new(0x48, Delta::Down(1)),
+        Op::Equals2 => Row::new(0x49, Delta::Down(1)),
+        Op::ToNumber => Row::new(0x4A, Delta::Level),
+        Op::ToString => Row::new(0x4B, Delta::Level),
+        Op::PushDuplicate => Row::new(0x4C, Delta::Up),
+        Op::GetMember => Row::new(0x4E, Delta::Down(1)),
+        Op::SetMember => Row::new(0x4F, Delta::Down(3)),
+        Op::Increment => Row::new(0x50, Delta::Level),
+        Op::Decrement => Row::new(0x51, Delta::Level),
+        Op::CallMethod => Row::new(0x52, Delta::Level),
+        Op::NewMethod => Row::new(0x53, Delta::Level),
+        Op::InstanceOf => Row::new(0x54, Delta::Down(1)),
+        Op::Enumerate2 => Row::new(0x55, Delta::Level),
+        Op::BitAnd => Row::new(0x60, Delta::Down(1)),
+        Op::BitOr => Row::new(0x61, Delta::Down(1)),
+        Op::BitXor => Row::new(0x62, Delta::Down(1)),
+        Op::BitLShift => Row::new(0x63, Delta::Down(1)),
+        Op::BitRShift => Row::new(0x64, Delta::Down(1)),
+        Op::BitURShift => Row::new(0x65, Delta::Down(1)),
+        Op::StrictEquals => Row::new(0x66, Delta::Down(1)),
+        Op::Greater => Row::new(0x67, Delta::Down(1)),
+        Op::StringGreater => Row::new(0x68, Delta::Down(1)),
+        Op::Call => Row::new(0x9E, Delta::Down(1)),
     }
 }
