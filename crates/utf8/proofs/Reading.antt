@@ -182,9 +182,6 @@ module _ {s : List ℕ} {i j : ℕ} (p : Passed s i j) where
   pub ran_further : i < j → Ran s i j
   ran_further h = record { passed = p; refused = λ e. absurd (omega arith) }
 
-  pub ran_none : from s j ≡ false → Ran s i j
-  ran_none e = record { passed = p; refused = λ w. sym p.same ∙ e }
-
 module _ {s : List ℕ} {i : ℕ} (n : ℕ) where
   pub stands_not : from s i ≡ false → Stands s i n false
   stands_not e = record { yes = λ w. absurd (false≢true w); no = λ w. e }

@@ -4,7 +4,7 @@ ghost use Rattle.utf8.specs.Chars.{Ascii, Passed, Closed, Past};
 
 use std::simd::prelude::*;
 
-// Whether the N bytes from a position on are ASCII.
+// Whether the N bytes from a position on are ASCII. In vectors, since `[u8]::is_ascii` takes twice the time at these sizes.
 pub fn is_ascii<const N: usize>(s: &[u8], start: usize) -> bool
     requires { (start + N ≤ length s.now) × (N ≤ 64) }
     ensures { result ≡ true → Ascii s.now start N }
@@ -13,7 +13,8 @@ pub fn is_ascii<const N: usize>(s: &[u8], start: usize) -> bool
     bytes.simd_ge(Simd::<u8, N>::splat(0x80)).to_bitmask() == 0
 }
 
-// Where the blocks of N bytes end that are ASCII and stand before an end.
+// Where the blocks of N bytes end that are ASCII and stand before an end. What is wanted is a position: from the chunks of a `for` it would have to be
+// multiplied out.
 fn blocks<const N: usize>(s: &[u8], start: usize, end: usize) -> usize
     requires { (start ≤ end) × (end ≤ length s.now) × (3 ≤ N) × (N ≤ 64) }
     ensures { Passed s.now start result × (result ≤ end) × (Closed s.now start → Closed s.now result) }

@@ -45,7 +45,8 @@ fn is_second_of_four(first: u8, b: u8) -> bool
     within(b, 0x80, 0xBF)
 }
 
-// UTF8-2, by its first byte: whether it stands at a position.
+// UTF8-2, by its first byte: whether it stands at a position. The three forms are functions of their own, since each byte has its own range, and a branch for
+// each costs less here than a loop.
 fn is_two(s: &[u8], i: usize) -> bool
     requires { (i < length s.now) × (in_range (get_or s.now i 0) (0xC2 to 0xDF) ≡ true) }
     ensures { Stands s.now i 2 result }
@@ -110,7 +111,7 @@ fn stop_at(s: &[u8], start: usize) -> usize
 }
 
 // Where some chars end, up to a first one of ASCII. A few neighbours are not worth a window, and the branches for each width are foreseen where
-// chars are alike.
+// chars are alike. A `while`, as each turn goes on by as many bytes as its char has.
 pub fn pass_chars(s: &[u8], start: usize) -> usize
     requires { start < length s.now }
     ensures { Ran s.now start result }

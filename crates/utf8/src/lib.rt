@@ -8,7 +8,8 @@ ghost use Rattle.std.specs.Prelude.{◌≡◌};
 ghost use Rattle.utf8.specs.Utf8.{utf8};
 
 // Whether the bytes are UTF-8 (RFC 3629). Most are passed many at a time; where that comes no further some chars are taken one by one, which is what
-// can refuse.
+// can refuse. The library's own tests are slower: `str::from_utf8` on text of wide chars, `simdutf8` on short strings of ASCII and on text with a wide char
+// now and then.
 pub fn is_utf8(s: &[u8]) -> bool
     ensures { result ≡ utf8 s.now }
 {

@@ -40,7 +40,8 @@ fn may_follow(third: u8, prior: u8, last: u8, b: u8) -> bool
     }
 }
 
-// Whether each of the 16 bytes from i + 3 on can stand after the three before it. No byte ends the search.
+// Whether each of the 16 bytes from i + 3 on can stand after the three before it. No byte ends the search, and the count is a byte, so that the compiler
+// looks at all of them at once: it does not in a chain that ends early.
 fn is_window(s: &[u8], i: usize) -> bool
     requires { i + 19 ≤ length s.now }
     ensures { result ≡ true → Follows s.now i 16 }
@@ -91,7 +92,7 @@ fn is_mixed(s: &[u8], i: usize) -> bool
     16 <= s.len() - i && !is_ascii::<16>(s, i)
 }
 
-// Where the windows from start + 3 on end, less a char that the last one cuts.
+// Where the windows from start + 3 on end, less a char that the last one cuts. The next window is looked at only where one passes.
 fn windows(s: &[u8], start: usize) -> usize
     requires { (start + 19 ≤ length s.now) × (last_start s.now start ≡ start + 3) }
     ensures { Past s.now (start + 3) result }

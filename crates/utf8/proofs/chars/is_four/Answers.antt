@@ -3,15 +3,11 @@ use Prim.Native.Nat.{◌+◌}
 use mathlib.Core.Bool.{false}
 use mathlib.Core.Path.{refl, sym, ◌∙◌}
 use native.Mathlib.Omega.{arith}
-use Rattle.utf8.proofs.Reading.{refuses, takes, ends, bounds, four_owes, stands_cut, stands_tested}
+use Rattle.utf8.proofs.Reading.{refuses, takes, ends, four_owes, stands_cut, stands_tested}
 use Rattle.utf8.proofs.chars.is_four.Goals as goal
 
 pub returns-then-s-i-lt4 : goal.returns-then-s-i-lt4
 returns-then-s-i-lt4 c = stands_cut 4 0xF0 0xF4 refl c.requires.0 c.requires.1 (omega arith)
-
-pub is_second_of_four-requires : goal.is_second_of_four-requires
-is_second_of_four-requires c =
-    (bounds 0xF0 0xF4 _ c.requires.1).0
 
 pub returns-then-not-is_second_of_four : goal.returns-then-not-is_second_of_four
 returns-then-not-is_second_of_four c =

@@ -23,6 +23,3 @@ returns-then-not-within c =
     let three = outside 0xE0 0xEF b p.3 (omega arith) in
     let four : 0xF4 < b = outside 0xF0 0xF4 b (sym c.within.ensures ∙ c.if-not-within.true) (omega arith) in
     no_first s i p.0 0xF5 0xFF (omega arith) (omega (arith, c.type_inv.s i)) refl))
-
-pub is_four-requires : goal.is_four-requires
-is_four-requires c = (omega arith, sym c.within.ensures ∙ c.if-not-within.false)
