@@ -108,7 +108,8 @@ pub enum ConstantKind {
     Register(u8),
 }
 
-// A name is its index plus 1, or 0; the marks are bits 0 to 8.
+// A function's name is its index plus 1, or 0, and its marks are bits 0 to 8, as the record's words have them: an Option here would be turned back into the
+// word by each crate that writes it. `decode::function_of` says it as an Option.
 #[derive(Clone, Copy)]
 pub enum ExprKind {
     Constant(ConstantKind),
@@ -162,7 +163,7 @@ pub enum StatementKind {
     Switch,
 }
 
-// Other: a record that refusal 3 names, or that no kind has.
+// Other: a record that refusal 3 names, or that no kind has. A parameter's register is its number plus 1, or 0 for none, as the record's words have it.
 #[derive(Clone, Copy)]
 pub enum Record {
     Statement(StatementKind),
