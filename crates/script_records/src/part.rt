@@ -3,7 +3,7 @@ ghost use Rattle.std.specs.Prelude.{◌≡◌, ◌-◌, ◌≤◌, min, max};
 ghost use Rattle.script_records.specs.Layout.{rows_of};
 ghost use Rattle.script_records.specs.Parts.{last_tree};
 
-use crate::layout::{Layout, Row, ScriptFile};
+use crate::layout::{Row, ScriptFile};
 
 // The n records that end before record `end`.
 #[derive(Clone, Copy)]
@@ -73,14 +73,4 @@ impl ScriptFile<'_> {
             },
         }
     }
-}
-
-pub fn last_tree(file: &[u8], l: Layout, p: Part) -> Tree
-    ensures { result ≡ last_tree (rows_of file.now l) p }
-{
-    ScriptFile {
-        bytes: file,
-        layout: l,
-    }
-    .last_tree(p)
 }
