@@ -6,6 +6,8 @@
   python3 tools/design_census.py --counts   the counts alone
   python3 tools/design_census.py --markdown the tables of docs/DESIGN-PASS.md
   python3 tools/design_census.py --crates   the same places, crate by crate
+  python3 tools/design_census.py --left     the places without a reason in tools/design_kept, crate by crate
+  python3 tools/design_census.py --kept     how many have one, and the reasons that no place or no source has
 
 It reads the text alone. A place is a line `crate/src/file.rt: item | what it is`.
 """
@@ -754,13 +756,67 @@ POINTS = {
 }
 
 
+KEPT = re.compile(r'^(\d) \| (.+?) \| ([abcdn]) \| (\S+) \| (.+)$')
+
+
+def comments(path):
+    """A source's comments as one line of words."""
+    lines = [re.search(r'(?:^|\s)(?://+|--) ?(.*)$', line) for line in open(path)]
+    return ' '.join(' '.join(m.group(1) for m in lines if m).split())
+
+
+def reasons():
+    """The reasons of tools/design_kept: point, part of the place's line, letter, source, words. `n` says of a crate's answers that
+    tools/needed_answers.py was run over them."""
+    for path in sorted(glob.glob('tools/design_kept/*.txt')):
+        for line in open(path):
+            if line.strip() and not line.startswith('#'):
+                m = KEPT.match(line.strip())
+                if not m:
+                    print(f'not a reason: {path}: {line.strip()}')
+                    continue
+                yield (int(m.group(1)),) + m.groups()[1:]
+
+
+def reason_of(all_reasons, n, where, what):
+    line = ' '.join(f'{where}: {what}'.split())
+    for r in all_reasons:
+        if r[0] == n and ' '.join(r[1].split()) in line:
+            return r
+    return None
+
+
+def print_kept(chosen):
+    """How many places of each point have a reason, and which reasons are without a place, or not in their source."""
+    all_reasons, used, letters = list(reasons()), set(), collections.defaultdict(collections.Counter)
+    for n in chosen:
+        found = POINTS[n][1]()
+        for where, what in found:
+            r = reason_of(all_reasons, n, where, what)
+            letters[n][r[2] if r else '-'] += 1
+            used.add(r)
+        c = letters[n]
+        print(f'{n}. listed {len(found)}, without a reason {c["-"]}; ' + ', '.join(f'{k} {c[k]}' for k in 'abcdn' if c[k]))
+    for r in all_reasons:
+        if r[0] in chosen and r not in used:
+            print(f'no place has it: {" | ".join(map(str, r))}')
+        if r[2] != 'n' and (not os.path.exists('crates/' + r[3]) or ' '.join(r[4].split()) not in comments('crates/' + r[3])):
+            print(f'not in the source: {" | ".join(map(str, r))}')
+
+
 def main():
     args = sys.argv[1:]
     chosen = [int(a) for a in args if a.isdigit()] or list(POINTS)
-    if '--crates' in args:
+    if '--kept' in args:
+        print_kept(chosen)
+        return
+    all_reasons = list(reasons()) if '--left' in args else []
+    if '--crates' in args or '--left' in args:
         by = collections.defaultdict(list)
         for n in chosen:
             for where, what in POINTS[n][1]():
+                if reason_of(all_reasons, n, where, what):
+                    continue
                 crates = set(re.findall(r'(?:^|[,;] )(\w+)/(?:src|proofs)', where)) or {where.split(':')[0]}
                 for c in crates:
                     mine = [w for w in re.split(r'[,;] (?=\w+/src)', where) if w.startswith(c + '/') or w.split(':')[0] == c]

@@ -6,13 +6,18 @@ ghost use Rattle.codegen_state.specs.Stop.{number_of};
 
 // Areas by their first words: labels, and behind the slice the heads and the links of the pool's index.
 pub const LABELS: usize = 12288;
+
 pub const HEADS: usize = 16384;
+
 pub const LINKS: usize = 18432;
 
 // The slice's entries, and document 01's limits.
 pub const MAX_ENTRIES: usize = 4096;
+
 pub const MAX_ACTIONS: u32 = 1024;
+
 pub const MAX_VALUES: u32 = 2048;
+
 pub const MAX_LABELS: u32 = 1024;
 
 // Why no step is done any more. The discriminants are the refusals' numbers; no script of ours marks a label twice.

@@ -13,10 +13,22 @@ ghost use Rattle.slice_words.specs.References.{text_at, param_of};
 use hir::Record;
 use script_records::layout::ScriptFile;
 
-// Where the list ends and the pool words begin.
+// The areas of the slice by their first words: the entries begin it, and the labels, the list ends and the pool words follow.
+pub const LABELS_AT: usize = 12288;
+
 pub const ENDS_AT: usize = 13312;
 
 pub const POOL_AT: usize = 14336;
+
+// The words of the slice that a list needs.
+pub const LIST_WORDS: usize = 16384;
+
+// The entries that the slice holds, and document 01's limits of actions and of pushed values.
+pub const MAX_ENTRIES: usize = 4096;
+
+pub const MAX_ACTIONS: u32 = 1024;
+
+pub const MAX_VALUES: u32 = 2048;
 
 // The reference of an empty string that comes from no string of the file.
 pub const NO_STRING: u32 = 0xffff_ffff;
