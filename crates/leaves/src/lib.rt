@@ -247,6 +247,7 @@ pub fn is_hoisted(t: &Trees) -> bool
 }
 
 // Whether some tree of a row is hoisted: most rows have none.
+#[inline(never)]
 pub fn has_hoisted(row: &Trees) -> bool
     ensures { result ≡ any_hoisted (meanings_of row.now) }
 {

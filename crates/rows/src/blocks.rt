@@ -20,7 +20,7 @@ fn only_tree<'a>(row: &Trees<'a>, lp: Loop) -> Option<Trees<'a>>
         let Some(tree) = left.next() else {
             return found;
         };
-        if is_passed(&tree, lp, 4) {
+        if is_passed(&tree, &lp, 4) {
             continue;
         }
         if found.is_some() {

@@ -26,6 +26,7 @@ fn scan_end(row: &Trees) -> usize
 }
 
 // The first record of a Case or a Default in a row, at whatever depth, or where the scan ends.
+#[inline(never)]
 fn first_label(row: &Trees) -> usize
     ensures { (row.now.part.end - row.now.part.n ≤ result) × (result ≤ row.now.part.end) × Unlabelled (file_of row.now) row.now.script.layout (row.now.part.end - row.now.part.n) result }
 {
@@ -77,6 +78,7 @@ fn from_label(row: &Trees, ends: &[usize], lp: Loop) -> usize
 }
 
 // How many trees of a row are to be generated, and where they end.
+#[inline(never)]
 pub fn ends_of(row: &Trees, scratch: &mut [usize], what: Each, lp: Loop) -> usize
     requires { row.now.part.n ≤ length scratch.old }
     ensures { KeptOf (file_of row.now) row.now.script.layout what (loop_of lp) row.now.part scratch.new result }
@@ -88,7 +90,7 @@ pub fn ends_of(row: &Trees, scratch: &mut [usize], what: Each, lp: Loop) -> usiz
         }
         Each::Field => ends_but(row, scratch, start, |_| false),
         Each::Statement | Each::Hoisted | Each::Unhoisted => {
-            ends_but(row, scratch, start, |tree| is_quiet(&tree, lp))
+            ends_but(row, scratch, start, |tree| is_quiet(&tree, &lp))
         }
         Each::Conditional => {
             let stop = first_label(row);
@@ -96,7 +98,7 @@ pub fn ends_of(row: &Trees, scratch: &mut [usize], what: Each, lp: Loop) -> usiz
         }
         Each::Element => {
             let stop = first_label(row);
-            let top = ends_but(row, scratch, stop, |tree| is_quiet(&tree, lp));
+            let top = ends_but(row, scratch, stop, |tree| is_quiet(&tree, &lp));
             from_label(row, &scratch[..top], lp)
         }
     }

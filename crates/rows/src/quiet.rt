@@ -22,9 +22,9 @@ fn is_under(script: &ScriptFile, e: usize, kind: Kind) -> bool
 }
 
 // How many records are passed below record e, if the way goes on there.
-fn passes(script: &ScriptFile, e: usize, lp: Loop) -> Option<usize>
+fn passes(script: &ScriptFile, e: usize, lp: &Loop) -> Option<usize>
     requires { (0 < e) × HasRow script.now.bytes.now script.now.layout (e - 1) }
-    ensures { result ≡ passes_at (rows_of script.now.bytes.now script.now.layout) e (is_none lp.exit) (is_none lp.next) }
+    ensures { result ≡ passes_at (rows_of script.now.bytes.now script.now.layout) e (is_none lp.now.exit) (is_none lp.now.next) }
 {
     let row = script.known_row(e - 1);
     if row.kind == Kind::Expr as u32 {
@@ -43,8 +43,8 @@ fn passes(script: &ScriptFile, e: usize, lp: Loop) -> Option<usize>
 }
 
 // Whether the last tree is passed on the way down in fewer than so many steps.
-pub fn is_passed(tree: &Trees, lp: Loop, steps: u32) -> bool
-    ensures { result ≡ of_passed (file_of tree.now) tree.now.script.layout steps (is_none lp.exit) (is_none lp.next) tree.now.part }
+pub fn is_passed(tree: &Trees, lp: &Loop, steps: u32) -> bool
+    ensures { result ≡ of_passed (file_of tree.now) tree.now.script.layout steps (is_none lp.now.exit) (is_none lp.now.next) tree.now.part }
 {
     let start = tree.start();
     let mut e = tree.part.end;
@@ -61,8 +61,8 @@ pub fn is_passed(tree: &Trees, lp: Loop, steps: u32) -> bool
 }
 
 // The same in 128 steps. An expression is a Void or it is not.
-pub fn is_quiet(tree: &Trees, lp: Loop) -> bool
-    ensures { result ≡ of_passed (file_of tree.now) tree.now.script.layout 128 (is_none lp.exit) (is_none lp.next) tree.now.part }
+pub fn is_quiet(tree: &Trees, lp: &Loop) -> bool
+    ensures { result ≡ of_passed (file_of tree.now) tree.now.script.layout 128 (is_none lp.now.exit) (is_none lp.now.next) tree.now.part }
 {
     if tree.kind() == Kind::Expr as u32 {
         return is_under(&tree.script, tree.part.end, Kind::Void);

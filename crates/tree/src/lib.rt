@@ -230,6 +230,7 @@ impl<'a> Trees<'a> {
         Element::from(self.node().root)
     }
 
+    #[inline(never)]
     pub fn counts(&self) -> Counts
         ensures { result ≡ counts_of (trees_of self.now) }
     {
@@ -241,6 +242,7 @@ impl<'a> Trees<'a> {
     }
 
     // How many trees there are.
+    #[inline(never)]
     pub fn width(&self) -> u32
         ensures { result ≡ width (trees_of self.now) }
     {
@@ -288,7 +290,7 @@ impl<'a> Iterator for Trees<'a> {
             return None;
         }
         let last = *self;
-        *self = last.rest();
+        self.part = last.rest().part;
         Some(last)
     }
 }
