@@ -6,7 +6,8 @@ ghost use Rattle.operators.specs.Shapes.{kind_shape, root_shape, constant_litera
 
 use hir::{ConstantKind, ExprKind, Record};
 
-// An expression before it is generated: the four shapes of the definition, of which Other is one.
+// An expression before it is generated: the four shapes of the definition, of which Other is one. They say what the expression is: `access`, `leaves` and
+// `statement` each make something else of them.
 #[derive(Clone, Copy)]
 pub enum Shape {
     Constant(ConstantKind),
@@ -39,7 +40,7 @@ impl From<Record> for Shape {
     }
 }
 
-// The constants that negation and GotoFrame look at.
+// The constants that negation and GotoFrame look at. They are values, of which the two calls make different things.
 #[derive(Clone, Copy)]
 pub enum Literal {
     String(u32),
@@ -47,6 +48,7 @@ pub enum Literal {
     Float(u32, u32),
 }
 
+// An Option, and no TryFrom, since it is no error that a constant or a record is none of these. Each arm takes the constant's own parts.
 fn constant_literal(c: ConstantKind) -> Option<Literal>
     ensures { result ≡ constant_literal c }
 {

@@ -1,4 +1,4 @@
-use mathlib.Core.Bool.{true, false}
+use mathlib.Core.Bool.{true, false, false≢true}
 use mathlib.Core.Path.{◌≡◌, refl, sym}
 use lib.Dec.{ltb, eqb}
 use Rattle.std.proofs.lemmas.List.{length-take-le}
@@ -9,7 +9,7 @@ use Rattle.rows.specs.declared.Each.{Each}
 use Rattle.rows.specs.declared.Each.TheVariants.{Expr, Discarded, Statement, Hoisted, Unhoisted, Conditional, Element}
 use Rattle.rows.specs.Rows.{loop_of}
 use Rattle.rows.specs.Kept.{of_passed}
-use Rattle.rows.proofs.Passed.{never, of_statements, expr_out, discarded_out, conditional_out, passed_out}
+use Rattle.rows.proofs.Passed.{of_statements, expr_out, discarded_out, conditional_out, passed_out}
 use Rattle.rows.proofs.Kept.{no_label, kept_taken, kept_take, down_all, down_unlabelled, element_silent, conditional_silent}
 use Rattle.rows.proofs.ends.ends_of.Goals as goal
 
@@ -28,7 +28,7 @@ returns-in-Expr c =
     ]
 
 pub returns-in-Field : goal.returns-in-Field
-returns-in-Field c = down_all _ _ _ _ _ _ (c.ends_but-in-Field.ensures.kept (λ q. false) (λ t r e p. search rules)) _ _ (λ q w z h. never h)
+returns-in-Field c = down_all _ _ _ _ _ _ (c.ends_but-in-Field.ensures.kept (λ q. false) (λ t r e p. search rules)) _ _ (λ q w z h. absurd (false≢true h))
 
 pub returns-in-Statement : goal.returns-in-Statement
 returns-in-Statement c =
