@@ -6,8 +6,8 @@ ghost use Rattle.operators.specs.Shapes.{kind_shape, root_shape, constant_litera
 
 use hir::{ConstantKind, ExprKind, Record};
 
-// An expression before it is generated: the four shapes of the definition, of which Other is one. They say what the expression is: `access`, `leaves` and
-// `statement` each make something else of them.
+// An expression before it is generated: the four shapes of the definition, of which Other is one. They say what the expression is: `leaves`
+// asks for one of them alone, and `statement` for all.
 #[derive(Clone, Copy)]
 pub enum Shape {
     Constant(ConstantKind),
@@ -40,7 +40,7 @@ impl From<Record> for Shape {
     }
 }
 
-// The constants that negation and GotoFrame look at. They are values, of which the two calls make different things.
+// The constants that negation and GotoFrame look at. They are values, of which the two make different things.
 #[derive(Clone, Copy)]
 pub enum Literal {
     String(u32),

@@ -177,6 +177,7 @@ module _ (S : ScriptFile) (breaks continues : Bool) where
             rw (p, f.is) at (one_statement S.bytes.now S.layout lp (g0.end - g0.n) t.part.end g0.end x y (rw f.is n));
       }
 
+-- The library says of `is_some` that it is a test, and has no lemma that what fails it is None.
 pub none_found : {A : Type 0} (o : Option A) → false ≡ is_some o → o ≡ None
 none_found None h = refl
 none_found (Some x) h = absurd (false≢true h)

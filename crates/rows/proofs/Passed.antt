@@ -240,6 +240,7 @@ module _ {rs : List Row} {lo e : ℕ} {breaks continues : Bool} where
   onward : Way rs lo e breaks continues → lo < e → Down rs lo e breaks continues
   onward t u = onward_in t.steps t.holds u
 
+-- When `then_some` gives a value, and which: the library has lemmas of `option_and_then` of that kind, and none of `then_some`.
 some_passed : (b : Bool) (size : ℕ) {n : ℕ} → then_some b size ≡ Some n → (b ≡ true) × (n ≡ size)
 some_passed true size h = (refl, cc)
 some_passed false size h = cc
@@ -378,7 +379,7 @@ module _ (F : List ℕ) (l : Layout) (p : Part) (w : Within F l p) (z : p.n ≡ 
   pub passed_out : (e : Each) → of_statements e ≡ true → (lp : Loop) → (breaks ≡ true → lp.break_label ≡ none) → (continues ≡ true → lp.continue_label ≡ none) → Quiet F p e lp
   passed_out e s lp no-break no-continue = (λ f d t c. one_quiet lp f d t c _ _ (passed_still lp no-break no-continue) passed_label e s, passed_label)
 
--- what `is_none` says
+-- What `is_none` says: the library has no lemma that turns an equation with `not` round.
 pub not_some : {b x : Bool} → x ≡ not b → b ≡ not x
 not_some {b = true} h = rw h
 not_some {b = false} h = rw h
