@@ -2,7 +2,7 @@
 ghost use Rattle.std.specs.Prelude.{◌≡◌, List, ℕ};
 ghost use Rattle.lowering.specs.Meaning as meaning;
 ghost use Rattle.tree.specs.Trees.{rec_of};
-ghost use Rattle.operators.specs.Shapes.{kind_shape, root_shape, constant_literal, shape_literal};
+ghost use Rattle.operators.specs.Shapes.{kind_shape, root_shape, shape_literal};
 
 use hir::{ConstantKind, ExprKind, Record};
 
@@ -48,23 +48,14 @@ pub enum Literal {
     Float(u32, u32),
 }
 
-// An Option, and no TryFrom, since it is no error that a constant or a record is none of these. Each arm takes the constant's own parts.
-fn constant_literal(c: ConstantKind) -> Option<Literal>
-    ensures { result ≡ constant_literal c }
-{
-    match c {
-        ConstantKind::String(s) => Some(Literal::String(s)),
-        ConstantKind::Integer(n) => Some(Literal::Integer(n)),
-        ConstantKind::Float(low, high) => Some(Literal::Float(low, high)),
-        _ => None,
-    }
-}
-
+// An Option, and no TryFrom, since it is no error that a record is none of these.
 pub fn literal_of(root: Record) -> Option<Literal>
     ensures { result ≡ shape_literal (root_shape root) }
 {
     match Shape::from(root) {
-        Shape::Constant(c) => constant_literal(c),
+        Shape::Constant(ConstantKind::String(s)) => Some(Literal::String(s)),
+        Shape::Constant(ConstantKind::Integer(n)) => Some(Literal::Integer(n)),
+        Shape::Constant(ConstantKind::Float(low, high)) => Some(Literal::Float(low, high)),
         _ => None,
     }
 }
