@@ -246,7 +246,7 @@ pub fn is_hoisted(t: &Trees) -> bool
     is_named(t)
 }
 
-// Whether some tree of a row is hoisted: most rows have none.
+// Whether some tree of a row is hoisted: most rows have none. Not inlined, as `rows::ends::ends_of`.
 #[inline(never)]
 pub fn has_hoisted(row: &Trees) -> bool
     ensures { result ≡ any_hoisted (meanings_of row.now) }

@@ -10,7 +10,8 @@ use pcode::Op;
 
 pub mod shape;
 
-// The operands and an action, perhaps a Not, perhaps an assignment; or one of three others.
+// The operands and an action, perhaps a Not, perhaps an assignment; or one of three others. The variants are the definition's and its table's; what each
+// generates is in the ring of `statement`, which is above this crate.
 #[derive(Clone, Copy)]
 pub enum Plan {
     Trivial(Op),

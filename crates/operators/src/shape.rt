@@ -2,11 +2,12 @@
 ghost use Rattle.std.specs.Prelude.{◌≡◌, List, ℕ};
 ghost use Rattle.lowering.specs.Meaning as meaning;
 ghost use Rattle.tree.specs.Trees.{rec_of};
-ghost use Rattle.operators.specs.Shapes.{kind_shape, root_shape, constant_literal, shape_literal};
+ghost use Rattle.operators.specs.Shapes.{kind_shape, root_shape, shape_literal};
 
 use hir::{ConstantKind, ExprKind, Record};
 
-// An expression before it is generated: the four shapes of the definition, of which Other is one.
+// An expression before it is generated: the four shapes of the definition, of which Other is one. They say what the expression is: `leaves`
+// asks for one of them alone, and `statement` for all.
 #[derive(Clone, Copy)]
 pub enum Shape {
     Constant(ConstantKind),
@@ -39,7 +40,7 @@ impl From<Record> for Shape {
     }
 }
 
-// The constants that negation and GotoFrame look at.
+// The constants that negation and GotoFrame look at. They are values, of which the two make different things.
 #[derive(Clone, Copy)]
 pub enum Literal {
     String(u32),
@@ -47,22 +48,14 @@ pub enum Literal {
     Float(u32, u32),
 }
 
-fn constant_literal(c: ConstantKind) -> Option<Literal>
-    ensures { result ≡ constant_literal c }
-{
-    match c {
-        ConstantKind::String(s) => Some(Literal::String(s)),
-        ConstantKind::Integer(n) => Some(Literal::Integer(n)),
-        ConstantKind::Float(low, high) => Some(Literal::Float(low, high)),
-        _ => None,
-    }
-}
-
+// An Option, and no TryFrom, since it is no error that a record is none of these.
 pub fn literal_of(root: Record) -> Option<Literal>
     ensures { result ≡ shape_literal (root_shape root) }
 {
     match Shape::from(root) {
-        Shape::Constant(c) => constant_literal(c),
+        Shape::Constant(ConstantKind::String(s)) => Some(Literal::String(s)),
+        Shape::Constant(ConstantKind::Integer(n)) => Some(Literal::Integer(n)),
+        Shape::Constant(ConstantKind::Float(low, high)) => Some(Literal::Float(low, high)),
         _ => None,
     }
 }

@@ -2,7 +2,7 @@
 use Prim.Native.Nat.{ℕ, zero, suc, ◌-◌, ◌≤◌, ◌<◌}
 use mathlib.Core.Path.{◌≡◌, refl, sym, ap, ◌∙◌}
 use mathlib.Core.List.{List, [], ◌∷◌}
-use mathlib.Core.Bool.{Bool, true, false}
+use mathlib.Core.Bool.{Bool, true, false, false≢true}
 use native.Mathlib.Omega.{arith}
 use native.Mathlib.Nat.{add-zero}
 use lib.Dec.{ltb}
@@ -33,7 +33,7 @@ use Rattle.rows.specs.Kept.{upto, start_of, Kept, of_passed}
 use Rattle.std.specs.Option.{is_some, is_none}
 use Rattle.rows.specs.declared.Loop as code
 use Rattle.rows.specs.Innermost.{Same, Unlabelled, Only, Innermost, IsOnly}
-use Rattle.rows.proofs.Passed.{never, node_is, passed_out, block_root}
+use Rattle.rows.proofs.Passed.{node_is, passed_out, block_root}
 use Rattle.rows.proofs.Kept.{no_label, each_more, before_is, same_part, Going, going_start, going_on, Noted, noted_start, noted_out, noted_in, noted_all}
 use Rattle.rows.proofs.Statements.{hoisted_each, others_each}
 
@@ -177,9 +177,10 @@ module _ (S : ScriptFile) (breaks continues : Bool) where
             rw (p, f.is) at (one_statement S.bytes.now S.layout lp (g0.end - g0.n) t.part.end g0.end x y (rw f.is n));
       }
 
+-- The library says of `is_some` that it is a test, and has no lemma that what fails it is None.
 pub none_found : {A : Type 0} (o : Option A) → false ≡ is_some o → o ≡ None
 none_found None h = refl
-none_found (Some x) h = never h
+none_found (Some x) h = absurd (false≢true h)
 
 pub only_found : (row : Trees) (lp : code.Loop) (found : Option Trees) {left : Trees} → OnlyInv row.script (is_none lp.exit) (is_none lp.next) row.part found left → left.part.n ≡ 0 →
     IfSome found (λ t. IsOnly lp row t)

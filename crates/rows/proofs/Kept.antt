@@ -2,7 +2,7 @@
 use Prim.Native.Nat.{ℕ, zero, suc, ◌+◌, ◌-◌, ◌≤◌, ◌<◌, min}
 use mathlib.Core.Path.{◌≡◌, refl, sym, ap, ◌∙◌, subst}
 use mathlib.Core.List.{List}
-use mathlib.Core.Bool.{Bool, true, false, not}
+use mathlib.Core.Bool.{Bool, true, false, false≢true, not}
 use Rattle.std.specs.Int.{from_bool}
 use mathlib.Core.Option.{none}
 use Rattle.std.specs.Prelude as std
@@ -35,14 +35,14 @@ use Rattle.rows.specs.declared.Each.{Each}
 use Rattle.rows.specs.declared.Each.TheVariants.{Conditional, Element}
 use Rattle.rows.specs.Rows.{label_of, one_of, each_of, cases_of, one_case}
 use Rattle.rows.specs.Kept.{Quiet, upto, start_of, Idle, Kept, Unlabelled, KeptDown, KeptOf}
-use Rattle.rows.proofs.Passed.{never, unlabelled}
+use Rattle.rows.proofs.Passed.{unlabelled}
 use Rattle.tree.proofs.ByKind.{last_kind}
 use lib.Dec.{ltb}
 use borrow.Author.Tests.{ltb-true, ltb-false}
 
 pub no_label : (o : std.Option Label) → is_none o ≡ true → label_of o ≡ none
 no_label std.None h = refl
-no_label (std.Some label) h = never h
+no_label (std.Some label) h = absurd (false≢true h)
 
 -- a row, by its last tree
 module _ (F : List ℕ) (l : Layout) (p : Part) {t : Node Part} (i : IsNode F l p t) (h : 0 < p.n) where
@@ -70,12 +70,9 @@ module _ {F : List ℕ} {e : Each} {lp : Loop} {lo : ℕ} where
 pub part_is : (p : Part) (e n : ℕ) → p.end ≡ e → p.n ≡ n → p ≡ record { end = e; n = n }
 part_is p e n a b = rw (← a, ← b)
 
-sub_sub : (j lo s q : ℕ) → lo ≤ q → q < j → j - s ≡ q → j - lo - s ≡ q - lo
-sub_sub j lo s q a b e = omega arith
-
 -- the trees before the last of those up to j
 pub before_is : (F : List ℕ) (l : Layout) (lo j : ℕ) {t : Node Part} → IsNode F l (upto lo j) t → lo ≤ start_of F lo j → start_of F lo j < j → t.before ≡ upto lo (start_of F lo j)
-before_is F l lo j g a u = part_is _ _ _ g.end (g.n ∙ sub_sub j lo _ _ a u refl)
+before_is F l lo j g a u = part_is _ _ _ g.end (g.n ∙ omega (arith, a, u))
 
 module _ (F : List ℕ) (l : Layout) (lo j : ℕ) (w : Within F l (upto lo j)) (a : lo ≤ start_of F lo j) (u : start_of F lo j < j) (e : Each) (lp : Loop) where
   abbrev before : Part
@@ -126,15 +123,6 @@ module _ (F : List ℕ) (l : Layout) (e : Each) (lp : Loop) (lo : ℕ) where
       let c' = kept_same x (set x top q) top q last (λ k p. sym (get_or-set_other x top k q 0 (omega arith))) c in
       rw (add-one, g) (idle_none (start_of F lo q), u, r, w, c')
 
-both_end : (e n lo s e1 n1 : ℕ) → e ≡ lo + n → s ≤ n → e1 ≡ e - s → n1 ≡ n - s → e1 ≡ lo + n1
-both_end e n lo s e1 n1 a b c d = omega arith
-
-both_less : (e n lo e1 n1 k : ℕ) → e ≡ lo + n → e1 ≡ lo + n1 → min 1 n + k + n1 ≤ n → 0 < n → e1 < e
-both_less e n lo e1 n1 k a b l h = omega arith
-
-less_left : (top n n0 k n1 r : ℕ) → min 1 n + k + n1 ≤ n → 0 < n → top + n ≤ n0 → r ≤ 1 → top + r + n1 ≤ n0
-less_left top n n0 k n1 r a h b c = omega arith
-
 pub same_part : (lo : ℕ) (g : Part) → g.end ≡ lo + g.n → upto lo g.end ≡ g
 same_part lo g e = let d : g.end - lo ≡ g.n = omega arith in rw d
 
@@ -164,7 +152,7 @@ module _ {F : List ℕ} {l : Layout} {g0 g : Part} {top : ℕ} (i : Going F l g0
   lo = g0.end - g0.n
 
   before_end : (node_of F l g).before.end ≡ lo + (node_of F l g).before.n
-  before_end = both_end _ _ _ _ _ _ i.end (span_le (rows_in F) g.end g.n) node.end node.n
+  before_end = omega (arith, i.end, span_le (rows_in F) g.end g.n, node.end, node.n)
 
   start_is : start_of F lo g.end ≡ (node_of F l g).before.end
   start_is = let d : g.end - lo ≡ g.n = omega (arith, i.end) in rw d (sym node.end)
@@ -173,14 +161,14 @@ module _ {F : List ℕ} {l : Layout} {g0 g : Part} {top : ℕ} (i : Going F l g0
   in_row = rw (same_part lo g i.end) i.within
 
   down : start_of F lo g.end < g.end
-  down = rw start_is (both_less _ _ _ _ _ _ i.end before_end node.apart h)
+  down = rw start_is (omega (arith, i.end, before_end, node.apart, h))
 
   low : lo ≤ start_of F lo g.end
   low = rw start_is (omega (arith, before_end))
 
   module _ {rest : Part} (e : rest ≡ (node_of F l g).before) where
     pub going_on : {r : ℕ} → r ≤ 1 → Going F l g0 rest (top + r)
-    going_on {r} c = rw e (record { end = before_end; start = i.start; within = node.rest_within; less = less_left _ _ _ _ _ r node.apart h i.less c })
+    going_on {r} c = rw e (record { end = before_end; start = i.start; within = node.rest_within; less = omega (arith, node.apart, h, i.less, c) })
 
     -- the last tree of g is left out, or its end is noted
     pub noted_out : {out : Part → Bool} {x : List ℕ} → Noted F l out g0 x g top → out g ≡ true → Noted F l out g0 x rest top
@@ -203,6 +191,7 @@ module _ {F : List ℕ} {l : Layout} {g0 g : Part} {top : ℕ} (i : Going F l g0
         (record { kept = λ o lp a. kept_same F l o lp lo x (set x top g.end) top rest.end g0.end (λ k p. sym (get_or-set_other x top k g.end 0 (omega arith))) (m.kept o lp a) })
     noted_more n r {b = false} q k = rw k (noted_in n r)
 
+-- The library has no bound of a bool as a number, and `omega` reads none off `from_bool`.
 pub one_most : (b : Bool) → from_bool b ≤ 1
 one_most true = omega arith
 one_most false = omega arith

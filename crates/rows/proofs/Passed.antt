@@ -2,7 +2,7 @@
 use Prim.Native.Nat.{ℕ, zero, suc, ◌+◌, ◌-◌, ◌≤◌, ◌<◌, min}
 use mathlib.Core.Path.{◌≡◌, refl, sym, ap, ◌∙◌}
 use mathlib.Core.List.{List}
-use mathlib.Core.Bool.{Bool, true, false, cond, not}
+use mathlib.Core.Bool.{Bool, true, false, false≢true, cond, not}
 use mathlib.Core.Option.{none}
 use native.Mathlib.Omega.{arith}
 use native.Mathlib.Numerals.{sub-one}
@@ -41,9 +41,6 @@ use Rattle.std.specs.Bool.{then_some}
 use Rattle.rows.specs.Passed.{passes, passes_at, passed}
 use Rattle.rows.specs.Kept.{Quiet, of_passed}
 
-pub never : {A : Type 0} → false ≡ true → A
-never h = absurd (omega (arith, ap (λ (x : Bool). cond {A = ℕ} x 1 0) h))
-
 -- steps that change nothing
 abbrev pub Still : Step → Type 0
 Still m = (v : Held (Unit {0})) → after v m ≡ v
@@ -79,13 +76,13 @@ of_statements Element = true
 -- a statement that generates nothing: neither does a row's step for it
 module _ (lp : Loop) (f d s c : ℕ) (m : Meaning) (kids : Forest Meaning) (quiet : Still (m.gen_statement lp)) (no_label : element m.rec ≡ meaning.statement) where
   one_quiet : (e : Each) → of_statements e ≡ true → (v : Held (Unit {0})) → after v (one_of e lp f d s c m kids) ≡ v
-  one_quiet Expr h v = never h
-  one_quiet Discarded h v = never h
-  one_quiet Field h v = never h
+  one_quiet Expr h v = absurd (false≢true h)
+  one_quiet Discarded h v = absurd (false≢true h)
+  one_quiet Field h v = absurd (false≢true h)
   one_quiet Statement h v = quiet v
   one_quiet Hoisted h v = when_still (hoisted m.rec kids) _ quiet v
   one_quiet Unhoisted h v = when_still (not (hoisted m.rec kids)) _ quiet v
-  one_quiet Conditional h v = never h
+  one_quiet Conditional h v = absurd (false≢true h)
   one_quiet Element h v = rw no_label (when_still (ltb 0 s) _ quiet v)
 
 -- the records of some kinds
@@ -233,16 +230,17 @@ record Down (rs : List Row) (lo e : ℕ) (breaks continues : Bool) : Type 0 wher
 module _ {rs : List Row} {lo e : ℕ} {breaks continues : Bool} where
   onward_in : (k : ℕ) → passed k rs lo e breaks continues ≡ true → lo < e → Down rs lo e breaks continues
   unfolding passed
-  onward_in zero h u = never h
+  onward_in zero h u = absurd (false≢true h)
   onward_in (suc k) h u = by (passes_at rs e breaks continues) refl (rw (lt-leb e lo u) at h)
     where
       by : (o : Option ℕ) → passes_at rs e breaks continues ≡ o → unwrap_or (option_map (λ n. passed k rs lo (e - n) breaks continues) o) false ≡ true → Down rs lo e breaks continues
-      by None q x = never x
+      by None q x = absurd (false≢true x)
       by (Some n) q x = record { passes = n; is = q; below = record { steps = k; holds = x } }
 
   onward : Way rs lo e breaks continues → lo < e → Down rs lo e breaks continues
   onward t u = onward_in t.steps t.holds u
 
+-- When `then_some` gives a value, and which: the library has lemmas of `option_and_then` of that kind, and none of `then_some`.
 some_passed : (b : Bool) (size : ℕ) {n : ℕ} → then_some b size ≡ Some n → (b ≡ true) × (n ≡ size)
 some_passed true size h = (refl, cc)
 some_passed false size h = cc
@@ -273,15 +271,6 @@ module _ (rs : List Row) (e : ℕ) (breaks continues : Bool) {n : ℕ} (h : pass
 
   low_at : at < 100
   low_at = cases_at (λ j u m. omega arith) (λ j u m. omega arith) (λ j u m. omega arith) (λ j u m. omega arith) (λ j m. omega arith)
-
-few_kids : (n m k b : ℕ) → min 1 m + k + b ≤ m → (m ≡ 0 → ⊥) → m ≤ suc n → k ≤ n
-few_kids n m k b a z h = omega arith
-
-few_below : (n m k b : ℕ) → min 1 m + k + b ≤ m → m ≤ n → k ≤ n
-few_below n m k b a h = omega arith
-
-up_to : (a b c d : ℕ) → a ≤ b → c ≡ b → c ≤ d → a ≤ d
-up_to a b c d h e u = omega arith
 
 -- statements that are passed
 module _ (F : List ℕ) (l : Layout) {breaks continues : Bool} (lp : Loop) (no-break : breaks ≡ true → lp.break_label ≡ none) (no-continue : continues ≡ true → lp.continue_label ≡ none) (lo : ℕ) where
@@ -317,7 +306,7 @@ module _ (F : List ℕ) (l : Layout) {breaks continues : Bool} (lp : Loop) (no-b
 
     through : To (p.end - 1) → To (node_of F l p).before.end
     through t =
-        let r = (shorter kids (few_kids _ _ _ _ (node_is F l p w).apart z few) kids_within (rw (tree_start F l p w z) low) (rw (below_end F l p w z) t)).1 in
+        let r = (shorter kids (omega (arith, (node_is F l p w).apart, z, few)) kids_within (rw (tree_start F l p w z) low) (rw (below_end F l p w z) t)).1 in
         rw (tree_start F l p w z) at r
 
     in_list : (row_in (rows_of F l) (p.end - 2)).kind ≡ 97 → To (p.end - 1) → Those (node_of F l kids).children
@@ -335,8 +324,8 @@ module _ (F : List ℕ) (l : Layout) {breaks continues : Bool} (lp : Loop) (no-b
             let a : (row_in (rows_of F l) (p.end - 1 - 1)).kind ≡ 97 = rw e2 k in
             let d : To (p.end - 1 - 1) = cases_at _ _ _ _ o.is (λ j u m. absurd (omega (arith, j, a))) (λ j u m. absurd (omega (arith, j, a))) (λ j u m. absurd (omega (arith, j, a)))
             (λ j u m. absurd (omega (arith, j, a))) (λ j m. rw m at o.below) in
-            (shorter (node_of F l kids).children (few_below _ _ _ _ g.apart (few_kids _ _ _ _ (node_is F l p w).apart z few)) g.kids_within
-            (rw (tree_start F l kids kids_within y) (up_to _ _ _ _ low s (start_inside F l kids kids_within)))
+            (shorter (node_of F l kids).children (omega (arith, g.apart, (node_is F l p w).apart, z, few)) g.kids_within
+            (rw (tree_start F l kids kids_within y) (omega (arith, low, s, start_inside F l kids kids_within)))
             (rw (below_end F l kids kids_within y, e) d)).0
 
     in_block : (row_in (rows_of F l) (p.end - 2)).kind ≡ 97 → To (p.end - 1) → Still (gen_block lp (list 0 (list_at F p 0)))
@@ -390,7 +379,7 @@ module _ (F : List ℕ) (l : Layout) (p : Part) (w : Within F l p) (z : p.n ≡ 
   pub passed_out : (e : Each) → of_statements e ≡ true → (lp : Loop) → (breaks ≡ true → lp.break_label ≡ none) → (continues ≡ true → lp.continue_label ≡ none) → Quiet F p e lp
   passed_out e s lp no-break no-continue = (λ f d t c. one_quiet lp f d t c _ _ (passed_still lp no-break no-continue) passed_label e s, passed_label)
 
--- what `is_none` says
+-- What `is_none` says: the library has no lemma that turns an equation with `not` round.
 pub not_some : {b x : Bool} → x ≡ not b → b ≡ not x
 not_some {b = true} h = rw h
 not_some {b = false} h = rw h
@@ -474,3 +463,22 @@ module _ (F : List ℕ) (l : Layout) (p : Part) (w : Within F l p) (k : kind_at 
 
   pub expr_passed : {b : Bool} → b ≡ eqb (row_in rs (p.end - 2)).kind 48 → b ≡ of_passed F l 128 breaks continues p
   expr_passed {b} u = by_test b u
+
+-- a Break of one record
+module _ (F : List ℕ) (l : Layout) (p : Part) (w : Within F l p) (k : kind_at F l p ≡ 8) (breaks continues : Bool) where
+  break_there : p.n ≡ 0 → ⊥
+  break_there h = omega (arith, kind_none F l p h ∙ k)
+
+  abbrev break_start : ℕ
+  break_start = (node_of F l p).before.end
+
+  below_break : break_start < p.end
+  below_break = let z = break_there in omega (arith, z, below_end F l p w break_there, tree_start F l p w break_there, w.inside)
+
+  by_breaks : p.end - 1 ≤ break_start → (b : Bool) → then_some b 1 ≡ passes_at (rows_of F l) p.end breaks continues → b ≡ passed 128 (rows_of F l) break_start p.end breaks continues
+  by_breaks h true q =
+      passed_end (rows_of F l) break_start (p.end - 1) breaks continues 127 (omega arith) h ∙ sym (passed_on (rows_of F l) break_start p.end breaks continues 128 (omega arith) below_break q refl)
+  by_breaks h false q = passed_stop (rows_of F l) break_start p.end breaks continues 128 (omega arith) below_break q refl
+
+  pub break_passed : p.end - 1 ≤ break_start → breaks ≡ of_passed F l 128 breaks continues p
+  break_passed h = by_breaks h breaks (at_break (rows_of F l) p.end breaks continues {row = row_in (rows_of F l) (p.end - 1)} refl (last_kind F l p break_there refl ∙ k) refl)

@@ -1,4 +1,5 @@
-// A Block in a Block in a Block: if in each of them one statement alone may generate anything, the innermost one is generated, without a call for each.
+// A Block in a Block in a Block: if in each of them one statement alone may generate anything, the innermost one is generated, without a call for each. Each
+// step is in another row, and in the same loop.
 ghost use Rattle.std.specs.Prelude.{◌≡◌, IfSome};
 ghost use Rattle.tree.specs.Trees.{kind_at};
 ghost use Rattle.tree.specs.Handle.{file_of};
@@ -42,7 +43,7 @@ fn only_block<'a>(row: &Trees<'a>, lp: Loop) -> Option<Trees<'a>>
     Some(tree)
 }
 
-// The statements of the innermost Block.
+// The statements of the innermost Block. A `while`, since each Block is found in the one before: they stand in no row.
 pub fn innermost<'a>(row: &Trees<'a>, lp: Loop) -> Trees<'a>
     ensures script { result.script ≡ row.now.script }
     ensures innermost { Innermost (file_of row.now) row.now.script.layout (loop_of lp) row.now.part result.part }

@@ -63,7 +63,8 @@ fn ends_but<'a, F: Fn(Trees<'a>) -> bool>(
     top
 }
 
-// Of a switch's elements those before the first Case or Default generate nothing: they are taken from the top.
+// Of a switch's elements those before the first Case or Default generate nothing: they are taken from the top. The answer is how many are left, of which 0 is
+// one.
 fn from_label(row: &Trees, ends: &[usize], lp: Loop) -> usize
     requires { KeptOf (file_of row.now) row.now.script.layout Each.Element (loop_of lp) row.now.part ends.now (length ends.now) }
     ensures few { result ≤ length ends.now }
@@ -77,7 +78,8 @@ fn from_label(row: &Trees, ends: &[usize], lp: Loop) -> usize
     0
 }
 
-// How many trees of a row are to be generated, and where they end.
+// How many trees of a row are to be generated, and where they end. Three parameters, as in `statement::each`: the slice is lent by the call, the row's caller
+// says what is done, and the loop is that of the statements around. Not inlined, since in the ring's large functions its loops would keep their state in memory.
 #[inline(never)]
 pub fn ends_of(row: &Trees, scratch: &mut [usize], what: Each, lp: Loop) -> usize
     requires { row.now.part.n ≤ length scratch.old }

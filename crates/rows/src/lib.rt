@@ -13,7 +13,8 @@ pub mod ends;
 mod quiet;
 
 // Expressions for their values or for their effects; an object's fields; statements, those that are hoisted, and the others; the tests of a switch, and its
-// elements. An enum, and no closure for each: the functions that generate call each other in a ring, and a call through a closure gets no proof there.
+// elements. An enum, as in the definition, and no closures: what is left out of a row and what is done with each tree go by one name. The functions that
+// generate call each other in a ring, where each closure would have to write out as clauses the walk, its end and the meaning that the name stands for.
 #[derive(Clone, Copy)]
 pub enum Each {
     Expr,

@@ -12,7 +12,8 @@ use script_records::kind::Kind;
 use script_records::layout::ScriptFile;
 use tree::Trees;
 
-// Whether the record under the one below record e is of a kind.
+// Whether the record under the one below record e is of a kind. Kinds are compared as the numbers that the rows have: `Kind::try_from` would first look for
+// each among all.
 fn is_under(script: &ScriptFile, e: usize, kind: Kind) -> bool
     requires { (0 < e) × HasRow script.now.bytes.now script.now.layout (e - 1) }
     ensures { result ≡ eqb (row_in (rows_of script.now.bytes.now script.now.layout) (e - 2)).kind (number_of kind) }
@@ -60,12 +61,18 @@ pub fn is_passed(tree: &Trees, lp: &Loop, steps: u32) -> bool
     false
 }
 
-// The same in 128 steps. An expression is a Void or it is not.
+// The same in 128 steps. An expression is a Void or it is not, and a Break has one record.
 pub fn is_quiet(tree: &Trees, lp: &Loop) -> bool
     ensures { result ≡ of_passed (file_of tree.now) tree.now.script.layout 128 (is_none lp.now.exit) (is_none lp.now.next) tree.now.part }
 {
-    if tree.kind() == Kind::Expr as u32 {
+    let kind = tree.kind();
+    if kind == Kind::Expr as u32 {
         return is_under(&tree.script, tree.part.end, Kind::Void);
+    }
+    if kind == Kind::Break as u32 {
+        if tree.part.end.saturating_sub(1) <= tree.start() {
+            return lp.exit.is_none();
+        }
     }
     is_passed(tree, lp, 128)
 }

@@ -29,7 +29,7 @@ use Rattle.list_slice.specs.File.{rec_in, names_string, names_function}
 use Rattle.tree.specs.Trees.{rows_in, trees}
 use Rattle.tree.specs.Within.{record_named, constant_named, condition_named, target_named, Sound, Within}
 
--- a file that is accepted is short, and keeps the rules
+-- A file that is accepted is short, and keeps the rules. The library has no lemma of such a choice of numbers: two tests, of which 0 says both answers.
 short_true : (t s : Bool) (x : ℕ) → cond t 4 (cond (not s) 1 x) ≡ 0 → (t ≡ false) × (s ≡ true)
 short_true true s x h = absurd (omega arith)
 short_true false true x h = (refl, refl)

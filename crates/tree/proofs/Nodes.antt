@@ -31,7 +31,8 @@ use Rattle.tree.specs.declared.Node.{Node}
 use Rattle.tree.specs.Trees.{rows_in, trees, rec_of, made_node, no_node, node_of}
 use Rattle.tree.specs.Within.{Within, IsNode, live, record_named}
 
--- a test whether trees are left
+-- What `is_empty` answers, which is a test whether trees are left. The library's `eqb-true` and `eqb-false` have the test on the left, and say of the second
+-- case no more than that it is not 0.
 pub no_trees : {n : ℕ} → true ≡ eqb n 0 → n ≡ 0
 no_trees {n} h = eqb-true n 0 (sym h)
 
@@ -61,7 +62,7 @@ module _ (F : List ℕ) (p : Part) where
   trees_last h = rw (tree_more (rows_in F) p {t = last} refl h)
 
 -- a name's bytes, none where there is no name
-name_bytes : (t : Bool) (s : Str) → get_or (cond t none (some s)) [] ≡ cond t [] s
+pub name_bytes : (t : Bool) (s : Str) → get_or (cond t none (some s)) [] ≡ cond t [] s
 name_bytes true s = refl
 name_bytes false s = refl
 

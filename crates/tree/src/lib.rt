@@ -13,7 +13,8 @@ use script_records::kind::Kind;
 use script_records::layout::{Row, ScriptFile};
 use script_records::part::Part;
 
-// The last tree of a row: its record, the record's number, its children, and the trees before it. Of no tree the record is Absent.
+// The last tree of a row: its record, the record's number, its children, and the trees before it. Of no tree the record is Absent. A
+// `script_records::part::Tree` has the row before it is decoded, which is all that a file can be asked before it is accepted.
 #[derive(Clone, Copy)]
 pub struct Node<T> {
     pub root: Record,
@@ -22,7 +23,7 @@ pub struct Node<T> {
     pub before: T,
 }
 
-// The last tree of a part of any file's records.
+// The last tree of a part of any file's records: what `last_tree` finds, decoded. A file and a part, and no `Trees`, which only an accepted file has.
 pub fn node_at(script: &ScriptFile, p: Part) -> Node<Part>
     ensures { result ≡ node_of script.now.bytes.now script.now.layout p }
 {
@@ -47,7 +48,8 @@ pub fn node_at(script: &ScriptFile, p: Part) -> Node<Part>
     }
 }
 
-// Trees in a row of an accepted file. They are walked from the last to the first.
+// Trees in a row of an accepted file. They are walked from the last to the first. They stand in the file's records and are not copied out of them, since there is
+// no heap: a part of the records says which they are.
 #[derive(Clone, Copy)]
 pub struct Trees<'a> {
     pub script: ScriptFile<'a>,
@@ -55,7 +57,7 @@ pub struct Trees<'a> {
     pub ghost within: { Within script.bytes.now script.layout part },
 }
 
-// What stands in a switch's list.
+// What stands in a switch's list. The variants say what it is, and no step: each function that is asked about it makes something else of them.
 #[derive(Clone, Copy)]
 pub enum Element {
     Case,
@@ -114,6 +116,7 @@ impl<'a> Trees<'a> {
     ghost use Rattle.script_records.specs.Layout.{rows_of, row_in};
     ghost use Rattle.tree.specs.Handle.{file_of, parts_of, trees_of, IsRest};
 
+    // Of no trees there are no records: the count's own 0.
     pub fn is_empty(&self) -> bool
         ensures { result ≡ eqb self.now.part.n 0 }
     {
@@ -128,7 +131,8 @@ impl<'a> Trees<'a> {
         self.script.known_row(self.part.end - 1)
     }
 
-    // The trees before the last, which has so many records.
+    // The trees before the last, which has so many records. `script_records::part::last_tree` has to hold the size to the part, since its file may not be
+    // accepted: here there is nothing to hold.
     fn without(&self, size: usize) -> Trees<'a>
         requires { (0 < self.now.part.n) × (size ≡ (row_in (rows_of (file_of self.now) self.now.script.layout) (self.now.part.end - 1)).size) }
         ensures { IsRest self.now result }
@@ -172,7 +176,8 @@ impl<'a> Trees<'a> {
         self.part.end - self.row().size as usize
     }
 
-    // The children of the last tree.
+    // The children of the last tree. That they are of the same file is a clause here and below: a type whose ghost parameter is the file would say it at each
+    // name of the type.
     pub fn children(&self) -> Trees<'a>
         ensures script { result.script ≡ self.now.script }
         ensures part { result.part ≡ (node_of (file_of self.now) self.now.script.layout self.now.part).children }
@@ -227,9 +232,18 @@ impl<'a> Trees<'a> {
         if self.kind() < Kind::Case as u32 {
             return Element::Statement;
         }
+        self.labelled_element()
+    }
+
+    // The same where the last tree is a Case or a Default. Not inlined, since a node is large and most elements need none.
+    #[inline(never)]
+    fn labelled_element(&self) -> Element
+        ensures { result ≡ element_of (node_of (file_of self.now) self.now.script.layout self.now.part).root }
+    {
         Element::from(self.node().root)
     }
 
+    // What is counted of the trees. Not inlined, as `width`: in a large function the loops would keep their state in memory.
     #[inline(never)]
     pub fn counts(&self) -> Counts
         ensures { result ≡ counts_of (trees_of self.now) }
@@ -253,7 +267,7 @@ impl<'a> Trees<'a> {
         count
     }
 
-    // The trees up to the one n places before the last.
+    // The trees up to the one n places before the last. The place is each call's own, and stays with no value.
     pub fn kid(&self, n: u32) -> Trees<'a>
         ensures script { result.script ≡ self.now.script }
         ensures kid { IsKid (file_of self.now) self.now.script.layout self.now.part n result.part }
@@ -265,7 +279,7 @@ impl<'a> Trees<'a> {
         left
     }
 
-    // The children of that one.
+    // The children of that one: two calls, of which there is nothing to share.
     pub fn list(&self, n: u32) -> Trees<'a>
         ensures script { result.script ≡ self.now.script }
         ensures list { IsList (file_of self.now) self.now.script.layout self.now.part n result.part }
@@ -285,6 +299,7 @@ impl<'a> Iterator for Trees<'a> {
 
     ghost remaining = { λ s. at_most s.part.n };
 
+    // What is left are the trees before the last: no sum.
     fn next(&mut self) -> Option<Trees<'a>> {
         if self.is_empty() {
             return None;

@@ -71,9 +71,6 @@ below_set (suc n) g small j h =
     by_first zero a b = a
     by_first (suc i) a b = b i refl
 
-pub eighth_le : (n : ℕ) → count_trailing_zeros 64 n / 8 ≤ 8
-eighth_le n = let l = trailing_le 64 n in omega arith
-
 -- the same of eight bytes
 pub ascii_below : (s : List ℕ) (x : ℕ) → ((k : ℕ) → get_or s k 0 < 256) → x ≡ from_le_bytes w64 s → Ascii s 0 (count_trailing_zeros 64 (bit_and x 0x8080808080808080) / 8)
 ascii_below s x small e =

@@ -11,6 +11,7 @@ use borrow.Author.Tests.{eqb-true, eqb-false, leb-true, ltb-true, ltb-false, le-
 use Rattle.utf8.specs.Utf8.{Range, tail, chars, started, next}
 use Rattle.utf8.specs.Chars.{second}
 
+-- The two answers of a test, each with what it says. The library's `cases_Bool` gives a sum, whose cases each use would have to take apart.
 pub by_test : {P : Type 0} (t : Bool) → (t ≡ true → P) → (t ≡ false → P) → P
 by_test true y n = y refl
 by_test false y n = n refl

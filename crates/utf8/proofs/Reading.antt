@@ -11,16 +11,18 @@ use native.Mathlib.Omega.{arith}
 use lib.Dec.{eqb, leb, ltb}
 use lib.ListN.{length, get_or, drop, drop_of_length-le}
 use lib.Seq.{drop-cons}
-use borrow.Author.Tests.{eqb-true, leb-true, leb-false, ltb-true, ltb-false, le-leb, lt-leb, le-ltb, lt-ltb}
+use borrow.Author.Tests.{eqb-true, eqb-false, leb-true, leb-false, ltb-true, ltb-false, le-leb, lt-leb, le-ltb, lt-ltb}
+use Rattle.std.specs.List.{list_all}
+use Rattle.std.proofs.Math.Bool.{and_assoc}
 use Rattle.std.specs.Prelude.{map, take, replicate, ◌%◌, ◌^◌}
 use Rattle.std.specs.Array.{IsFirstChunk}
 use Rattle.std.proofs.lemmas.Grind.{common_steps}
 use Rattle.std.proofs.lemmas.Simd.{none_from_empty_mask, tops_compared, mask_l-mod, zip2_splat_left}
-use Rattle.std.proofs.lemmas.List.{length-map, get_or-take, get_or-drop}
+use Rattle.std.proofs.lemmas.List.{length-map, get_or-take, get_or-drop, drop-drop}
 use mir.Syntax.{w8}
 use lib.Lanes.{zip2, chunk, mask_l, top}
 use Rattle.utf8.specs.Utf8.{Range, ◌to◌, tail, chars, in_range, started, next, completes, utf8}
-use Rattle.utf8.specs.Chars.{from, Ascii, Passed, Ran, Stands, second}
+use Rattle.utf8.specs.Chars.{from, Ascii, Passed, Ran, Stands, second, firsts}
 use Rattle.utf8.proofs.Forms.{by_test, decided, starts, more, opened}
 
 pub byte : (s : List ℕ) (i : ℕ) (o : List Range) → i < length s → completes o (drop i s) ≡ Option-elim (next o (get_or s i 0)) false (λ rest. completes rest (drop (suc i) s))
@@ -70,17 +72,6 @@ bounds low high b e =
 
 pub outside : (low high b : ℕ) → in_range b (low to high) ≡ false → low ≤ b → high < b
 outside low high b e h = leb-false b high (simp (le-leb low b h) at e)
-
-module _ (s : List ℕ) (i : ℕ) (h : i < length s) where
-  pub three_owes : in_range (get_or s i 0) (0xE0 to 0xEF) ≡ true → completes (second (get_or s i 0) ∷ tail ∷ []) (drop (i + 1) s) ≡ from s i
-  three_owes w =
-      let (l, k) = bounds 0xE0 0xEF (get_or s i 0) w in
-      opens s i (tail ∷ []) h (omega arith) (omega arith) (simp (le-ltb (get_or s i 0) 0xE0 l, lt-ltb (get_or s i 0) 0xF0 (omega arith)))
-
-  pub four_owes : in_range (get_or s i 0) (0xF0 to 0xF4) ≡ true → completes (second (get_or s i 0) ∷ tail ∷ tail ∷ []) (drop (i + 1) s) ≡ from s i
-  four_owes w =
-      let (l, k) = bounds 0xF0 0xF4 (get_or s i 0) w in
-      opens s i (tail ∷ tail ∷ []) h (omega arith) k (simp (le-ltb (get_or s i 0) 0xE0 (omega arith), le-ltb (get_or s i 0) 0xF0 l))
 
 -- too few bytes for what is owed
 short : (o : List Range) (s : List ℕ) (i : ℕ) → i ≤ length s → length s < i + length o → completes o (drop i s) ≡ false
@@ -137,7 +128,7 @@ ascii_run s i (suc n) h a =
     let e : i + suc n ≡ i + n + 1 = omega arith in
     rw e (ascii_byte s (i + n) (omega arith) (a.each n (omega arith)) ∙ ascii_run s i n (omega arith) (record { each = λ k l. a.each k (omega arith) }))
 
--- a byte of a part of the bytes
+-- A byte of a part of the bytes: the library has a lemma for `take` and one for `drop`, and none for a part.
 pub part_at : (s : List ℕ) (i n k : ℕ) → k < n → get_or (take n (drop i s)) k 0 ≡ get_or s (i + k) 0
 part_at s i n k h = get_or-take n (drop i s) k 0 h ∙ get_or-drop i s k 0
 
@@ -192,6 +183,52 @@ module _ {s : List ℕ} {i : ℕ} (n : ℕ) where
 
   pub stands_tested : (t : Bool) → i + n ≤ length s → (t && from s (i + n)) ≡ from s i → Stands s i n t
   stands_tested t h e = record { yes = λ w. record { onward = omega arith; within = h; same = simp w at e }; no = λ w. sym (simp w at e) }
+
+by_length : (P : ℕ → Type 0) (n : ℕ) → 2 ≤ n → n ≤ 4 → P 2 → P 3 → P 4 → P n
+by_length P n l h two three four =
+    by_test (eqb n 2) (λ t. rw (eqb-true n 2 t) two)
+    (λ t.
+    by_test (eqb n 3) (λ u. rw (eqb-true n 3 u) three)
+    (λ u. let e : n ≡ 4 = omega (arith, eqb-false) in rw e four))
+
+-- tails that are owed
+tails_owed : (m : ℕ) (s : List ℕ) → m ≤ length s → completes (replicate m tail) s ≡ (list_all (λ b. in_range b tail) (take m s) && completes [] (drop m s))
+unfolding completes next
+tails_owed zero s h = refl
+tails_owed (suc m) [] h = absurd (omega arith)
+tails_owed (suc m) (b ∷ s) h =
+    picked (in_range b tail) (replicate m tail) (λ rest. completes rest s) ∙ rw (tails_owed m s (omega arith)) (sym (and_assoc (in_range b tail) (list_all (λ x. in_range x tail) (take m s)) (completes [] (drop m s))))
+
+-- a char of two, three or four bytes, by its first one
+module _ (s : List ℕ) (i n : ℕ) (low : 2 ≤ n) (high : n ≤ 4) (h : i < length s) (w : in_range (get_or s i 0) (firsts n) ≡ true) where
+  abbrev b : ℕ
+  b = get_or s i 0
+
+  char_owes : completes (second b ∷ replicate (n - 2) tail) (drop (i + 1) s) ≡ from s i
+  char_owes =
+      by_length (λ n. in_range b (firsts n) ≡ true → completes (second b ∷ replicate (n - 2) tail) (drop (i + 1) s) ≡ from s i) n low high
+      (λ w. let (l, k) = bounds 0xC2 0xDF b w in opens s i [] h l (omega arith) (simp (lt-ltb b 0xE0 (omega arith))))
+      (λ w. let (l, k) = bounds 0xE0 0xEF b w in opens s i (tail ∷ []) h (omega arith) (omega arith) (simp (le-ltb b 0xE0 l, lt-ltb b 0xF0 (omega arith))))
+      (λ w. let (l, k) = bounds 0xF0 0xF4 b w in opens s i (tail ∷ tail ∷ []) h (omega arith) k (simp (le-ltb b 0xE0 (omega arith), le-ltb b 0xF0 l)))
+      w
+
+  pub char_cut : length s < i + n → Stands s i n false
+  char_cut k =
+      by_length (λ n. in_range b (firsts n) ≡ true → length s < i + n → Stands s i n false) n low high
+      (stands_cut 2 0xC2 0xDF refl h) (stands_cut 3 0xE0 0xEF refl h) (stands_cut 4 0xF0 0xF4 refl h) w k
+
+  module _ (e : i + n ≤ length s) where
+    pub char_refused : false ≡ in_range (get_or s (i + 1) 0) (second b) → Stands s i n false
+    char_refused u = stands_tested n false e (refuses s (i + 1) _ (omega arith) _ (sym u) ∙ char_owes)
+
+    pub char_tested : true ≡ in_range (get_or s (i + 1) 0) (second b) → {r : Bool} → r ≡ list_all (λ x. in_range x tail) (take (i + n - (i + 2)) (drop (i + 2) s)) → Stands s i n r
+    char_tested u {r} q =
+        let m : i + n - (i + 2) ≡ n - 2 = omega arith in
+        let j : i + 2 + (n - 2) ≡ i + n = omega arith in
+        let l : n - 2 ≤ length (drop (i + 2) s) = grind (arith, common_steps) in
+        let d : drop (n - 2) (drop (i + 2) s) ≡ drop (i + n) s = drop-drop (n - 2) (i + 2) s ∙ rw j refl in
+        let o : (r && from s (i + n)) ≡ completes (replicate (n - 2) tail) (drop (i + 2) s) = sym (rw (q, m, ← d) (tails_owed (n - 2) (drop (i + 2) s) l)) in
+        stands_tested n r e (o ∙ takes s (i + 1) _ (omega arith) (i + 2) (omega arith) _ (sym u) ∙ char_owes)
 
 pub answer : {s : List ℕ} {i : ℕ} {t : Bool} → Passed s 0 i → t ≡ from s i → t ≡ utf8 s
 unfolding utf8

