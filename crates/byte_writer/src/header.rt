@@ -14,12 +14,8 @@ use decode::{Function, function_of};
 use hir::Record;
 use script_records::layout::ScriptFile;
 use script_records::part::Part;
-use slice_words::{NO_STRING, param_of, text};
+use slice_words::{NO_STRING, code, param_of, text};
 use tree::Trees;
-
-const DEFINE_FUNCTION: u32 = 0x9b;
-
-const DEFINE_FUNCTION_2: u32 = 0x8e;
 
 // How many bytes a parameter takes.
 fn param_size(script: &ScriptFile, root: Record, wide: bool) -> usize
@@ -35,11 +31,8 @@ fn params_size(params: &Trees, wide: bool) -> usize
     ensures { result ≡ length (params_data wide (params_of (trees_of params.now))) }
 {
     let mut size = 0;
-    let mut left = *params;
-    while !left.is_empty() {
-        let node = left.node();
-        size += param_size(&left.script, node.root, wide);
-        left = node.before;
+    for tree in *params {
+        size += param_size(&tree.script, tree.node().root, wide);
     }
     size
 }
@@ -49,9 +42,9 @@ fn header_code(f: &Function) -> u32
     ensures { result ≡ header_code (is_wide f.now) }
 {
     if 1 < f.register_count {
-        DEFINE_FUNCTION_2
+        code::DEFINE_FUNCTION_2
     } else {
-        DEFINE_FUNCTION
+        code::DEFINE_FUNCTION
     }
 }
 
@@ -90,13 +83,11 @@ impl Writer<'_> {
     {
         let end = self.at + params_size(params, wide);
         let mut begun = end;
-        let mut left = *params;
-        while !left.is_empty() {
-            let node = left.node();
-            begun -= param_size(&left.script, node.root, wide);
+        for tree in *params {
+            let root = tree.node().root;
+            begun -= param_size(&tree.script, root, wide);
             self.at = begun;
-            self.param(node.root, wide);
-            left = node.before;
+            self.param(root, wide);
         }
         self.at = end;
     }
