@@ -77,6 +77,7 @@ area_at (suc n) (x ∷ xs) zero h = refl
 area_at (suc n) (x ∷ xs) (suc j) h = area_at n xs j (omega arith)
 
 -- finishing order, from numbers and back
+-- a row that is not empty by its last element, which the library gives only as the value of `last`
 split_last : {A : Type 0} (x : A) (xs : List A) → (ys : List A) × (y : A) × (x ∷ xs ≡ ys ++ (y ∷ []))
 split_last x [] = ([], x, refl)
 split_last {A} x (z ∷ xs) = let r = split_last z xs in (x ∷ r.0, r.1, ap (λ (l : List A). x ∷ l) r.2)
