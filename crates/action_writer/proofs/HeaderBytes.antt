@@ -36,6 +36,7 @@ bit_is zero h = refl
 bit_is (suc zero) h = refl
 bit_is (suc (suc n)) h = let z : ⊥ = omega arith in absurd z
 
+-- nine bits are the number that they write: the library has two digits of a number, and no nine
 bits : (c : ℕ) → c % 2 + 2 * (c / 2 % 2 + 2 * (c / 4 % 2 + 2 * (c / 8 % 2 + 2 * (c / 16 % 2 + 2 * (c / 32 % 2 + 2 * (c / 64 % 2 + 2 * (c / 128 % 2 + 2 * (c / 256 % 2)))))))) ≡ c % 512
 bits c = omega arith
 

@@ -96,10 +96,10 @@ module _ (F : List ℕ) (l : Layout) (layout : l ≡ layout_of F) (short : lengt
       plain_data = rw (t, name_is)
 
 -- how many bytes a parameter takes
-pub size_of : (F : List ℕ) (l : Layout) → l ≡ layout_of F → length F ≤ max_bytes → (root : Record) (wide : Bool) {s : List ℕ} → s ≡ text_at F l (param_of root).name →
-    {n : ℕ} → n ≡ from_bool wide → length s + 1 + n ≡ length (param_data wide (param (rec_of F root)))
-size_of F l e h root true q z = omega (arith, wide_size F l e h root refl refl q, z)
-size_of F l e h root false q z = omega (arith, plain_size F l e h root refl refl q, z)
+pub size_of : (F : List ℕ) (l : Layout) → l ≡ layout_of F → length F ≤ max_bytes → (root : Record) (wide : Bool)
+    {n : ℕ} → n ≡ length (text_at F l (param_of root).name) + 1 + from_bool wide → n ≡ length (param_data wide (param (rec_of F root)))
+size_of F l e h root true z = omega (arith, wide_size F l e h root refl refl refl, z)
+size_of F l e h root false z = omega (arith, plain_size F l e h root refl refl refl, z)
 
 -- a parameter's register and its name
 

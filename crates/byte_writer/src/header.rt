@@ -1,5 +1,7 @@
 // Headers of functions.
 ghost use Rattle.std.specs.Prelude.{◌≡◌, ◌+◌, ◌≤◌, length};
+ghost use Rattle.std.specs.Int.{from_bool};
+ghost use Rattle.slice_words.specs.References.{text_at, param_of};
 ghost use Rattle.script.specs.Rules.{max_bytes};
 ghost use Rattle.script_records.specs.Layout.{layout_of};
 ghost use Rattle.lowering.specs.Meaning.{param};
@@ -19,9 +21,8 @@ use tree::Trees;
 
 // How many bytes a parameter takes.
 fn param_size(script: &ScriptFile, root: Record, wide: bool) -> usize
-    requires layout { script.now.layout ≡ layout_of script.now.bytes.now }
-    requires short { length script.now.bytes.now ≤ max_bytes }
-    ensures { result ≡ length (param_data wide (param (rec_of script.now.bytes.now root))) }
+    requires { length script.now.bytes.now ≤ max_bytes }
+    ensures { result ≡ length (text_at script.now.bytes.now script.now.layout (param_of root).name) + 1 + from_bool wide }
 {
     text(script, param_of(root).name).len() + 1 + usize::from(wide)
 }
@@ -60,7 +61,7 @@ fn marks_word(marks: [bool; 9]) -> u32
 }
 
 impl Writer<'_> {
-    // A parameter of DefineFunction2 has its register before its name.
+    // A parameter of DefineFunction2 has its register before its name: that byte is all that hangs on `wide`, and the name is written either way.
     fn param(&mut self, root: Record, wide: bool)
         requires layout { self.old.script.layout ≡ layout_of self.old.script.bytes.now }
         requires short { length self.old.script.bytes.now ≤ max_bytes }

@@ -8,7 +8,7 @@ use crate::Writer;
 use slice_words::{Entry, value};
 
 impl Writer<'_> {
-    // What follows the type of a value.
+    // What follows the type of a value. The type is a number, the byte of the format that has just been written.
     #[tactic(auto, using(crate::proofs::Writes::writing), unfolding(crate::specs::Data::operand_data))]
     fn operand(&mut self, kind: u8, entry: Entry)
         requires { let s = self.old.script in HasRoom self.old (operand_data s.bytes.now s.layout kind entry.first entry.second) }
@@ -27,6 +27,7 @@ impl Writer<'_> {
         }
     }
 
+    // A constant with its type. It writes, and converts nothing that a From could.
     #[tactic(auto, using(crate::proofs::Writes::writing))]
     fn constant(&mut self, index: u32)
         requires { HasRoom self.old (constant_bytes index (leb 256 index)) }

@@ -54,8 +54,7 @@ impl<'a> Lists<'a> {
         }
     }
 
-    // The entry after the list at this place. The places are numbers below those of the area, whether a list stands there or not, and `Lists` counts
-    // those that do.
+    // The entry after the list at this place. The place is a method's one argument: the loops over all lists count it, and nothing goes with it.
     pub fn end(&self, j: usize) -> usize
         requires { j < 1024 }
         ensures { result ≡ end_of self.now.list.now j }
