@@ -148,9 +148,6 @@ module _ {F : List ℕ} {l : Layout} {w sizes offsets : List ℕ} {j : ℕ} (s :
       pub begins : Begins F l w sizes offsets j e
       begins = subst (Step F l w sizes offsets j e) (first_sort (get_or w (e * 3) 0) g h) step
 
-      pub first_room : Room o' next (framed 0x96 value')
-      first_room = room_for _ begins.adds
-
       pub first_next : {n : ℕ} {o₁ : List ℕ} → Wrote o' next (framed 0x96 value') n o₁ → Building F l w sizes offsets j o at o₁ e n next
       first_next k = next_is begins.adds k (rw given.after (begins.opens at))
 

@@ -1,6 +1,6 @@
 -- The loops that write a number and a pool: what is left of it, written from here on, gives the whole.
 use Prim.Native.Nat.{ℕ, suc, ◌+◌, ◌-◌, ◌<◌, ◌/◌, ◌%◌}
-use mathlib.Core.Path.{◌≡◌, refl, ◌∙◌}
+use mathlib.Core.Path.{◌≡◌, ◌∙◌}
 use mathlib.Core.List.{List, [], ◌∷◌, ◌++◌}
 use native.Mathlib.Omega.{arith}
 use lib.ListN.{length, set, length-set, length-append}
@@ -13,9 +13,6 @@ pub record Left (o₀ : List ℕ) (at : ℕ) (bs o : List ℕ) (next : ℕ) (res
   pub same : written_at o next rest ≡ written_at o₀ at bs
   pub long : length o ≡ length o₀
   pub place : next + length rest ≡ at + length bs
-
-pub left_start : (o : List ℕ) (at : ℕ) (bs : List ℕ) → Left o at bs o at bs
-left_start o at bs = record { same = refl; long = refl; place = refl }
 
 left_next : {o₀ bs o : List ℕ} {at next b : ℕ} {rest : List ℕ} → Left o₀ at bs o next (b ∷ rest) → Left o₀ at bs (set o next b) (next + 1) rest
 unfolding written_at

@@ -48,9 +48,6 @@ module _ (F : List ℕ) (l : Layout) (wide : Bool) where
     pub within : Within F l left
     pub whole : size + length (data_of left) ≡ length (data_of p)
 
-  pub sized_start : {p : Part} → Within F l p → Sized p 0 p
-  sized_start w = record { within = w; whole = omega arith }
-
   pub sized_done : {p : Part} {size : ℕ} {left : Part} → Sized p size left → left.n ≡ 0 → size ≡ length (data_of p)
   sized_done {left = left} i h = omega (arith, i.whole, ap length (params_none left h))
 

@@ -1,6 +1,6 @@
 -- What an entry adds to the items before it: actions, bytes, tests and marks.
-use Prim.Native.Nat.{ℕ, suc, ◌+◌, ◌-◌, ◌≤◌, ◌<◌}
-use mathlib.Core.Path.{◌≡◌, refl, sym, ap, ap₂, ◌∙◌, subst}
+use Prim.Native.Nat.{ℕ, ◌+◌, ◌-◌, ◌≤◌, ◌<◌}
+use mathlib.Core.Path.{◌≡◌, refl, sym, ap, ◌∙◌, subst}
 use mathlib.Core.List.{List, [], ◌∷◌, ◌++◌}
 use mathlib.Core.Bool.{Bool, true, false, cond, ◌&&◌, and-true, and-false, and_comm, and_assoc}
 use native.Mathlib.Omega.{arith}
@@ -8,6 +8,7 @@ use lib.Dec.{ltb, leb, eqb}
 use lib.ListN.{length, length-append}
 use borrow.Author.Tests.{lt-ltb, le-ltb, ltb-true, ltb-false, ne_eqb, le-leb, lt-leb, leb-true, leb-false}
 use Rattle.std.specs.Prelude.{Option, Some, None}
+use Rattle.std.proofs.lemmas.List.{same_from_push}
 use Rattle.pcode.specs.declared.Op.{Op}
 use Rattle.pcode.specs.Pcode.{Header, DefineFunction, DefineFunction2, Value, Plain, Action, Item, plain, push, branch, define, action, mark, row_of, Jump, If}
 use Rattle.hir.specs.Hir.{Str}
@@ -101,18 +102,6 @@ sum_append : (xs : List ℕ) (m : ℕ) → sum (xs ++ (m ∷ [])) ≡ sum xs + m
 sum_append [] m = omega arith
 sum_append (x ∷ xs) m = omega (arith, sum_append xs m)
 
--- the last of two rows; of `_++_` the library has the laws for a part that both have, and none for two last elements
-last_same : (xs ys : List ℕ) (m n : ℕ) → xs ++ (m ∷ []) ≡ ys ++ (n ∷ []) → (xs ≡ ys) × (m ≡ n)
-last_same [] [] m n e = (refl, cc)
-last_same [] (y ∷ []) m n e = let z : ◌≡◌ {A = ℕ} 1 2 = ap length e in absurd (omega arith)
-last_same [] (y ∷ x ∷ ys) m n e = let z : 1 ≡ suc (suc (length (ys ++ (n ∷ [])))) = ap length e in absurd (omega arith)
-last_same (x ∷ []) [] m n e = let z : ◌≡◌ {A = ℕ} 2 1 = ap length e in absurd (omega arith)
-last_same (x ∷ y ∷ xs) [] m n e = let z : suc (suc (length (xs ++ (m ∷ [])))) ≡ 1 = ap length e in absurd (omega arith)
-last_same (x ∷ xs) (y ∷ ys) m n e =
-    let k : xs ++ (m ∷ []) ≡ ys ++ (n ∷ []) = cc in
-    let h : x ≡ y = cc in
-    let r = last_same xs ys m n k in (ap₂ ◌∷◌ h r.0, r.1)
-
 module _ (B : ℕ → ℕ) {w : Walk} (u : Value) (us : List Value) (rest : List Item) (v : Value) (q : Counts B (action (push (u ∷ us)) ∷ rest) w) (d : ℕ) where
   abbrev old : List Value
   old = u ∷ us
@@ -140,7 +129,7 @@ module _ (B : ℕ → ℕ) {w : Walk} (u : Value) (us : List Value) (rest : List
   new_counts e n = record {
     actions = q.actions ∙ simp length-append refl;
     bytes = rw (sum_append (measures B rest) (length (single_bytes (pushing new))), push_size new, grown e) (omega (arith, old_bytes));
-    last = λ ss m z. old_last ∙ ap sum (last_same (measures B rest) ss (length (single_bytes (pushing new))) m z).0;
+    last = λ ss m z. old_last ∙ ap sum (same_from_push (measures B rest) ss (length (single_bytes (pushing new))) m z).0;
     short = rw (le-leb (length (join value_bytes new)) 65535 n, rest_short);
   }
 
@@ -169,7 +158,7 @@ module _ (B : ℕ → ℕ) {is : List Item} {w : Walk} (k : Counts B is w) where
       go true true e = counted (record {
         actions = simp length-append (omega (arith, k.actions));
         bytes = rw (sum_append (measures B is) (size_of B a)) (omega (arith, k.bytes, size));
-        last = λ ss m q. k.bytes ∙ ap sum (last_same (measures B is) ss (size_of B a) m q).0;
+        last = λ ss m q. k.bytes ∙ ap sum (same_from_push (measures B is) ss (size_of B a) m q).0;
         short = rw e k.short;
       })
       go true false e = uncounted (rw e)

@@ -1,7 +1,8 @@
 -- What lowering's lists give the walks: each list stands between its ends, and says the list of its number.
 use Prim.Native.Nat.{ℕ, zero, suc, ◌+◌, ◌-◌, ◌≤◌, ◌<◌}
 use mathlib.Core.Path.{◌≡◌, refl, sym, ap, ◌∙◌, subst}
-use mathlib.Core.List.{List, [], ◌∷◌, ◌++◌, map, reverse, reverse-reverse}
+use mathlib.Core.Logic.{◌⊎◌, inl, inr}
+use mathlib.Core.List.{List, [], ◌∷◌, ◌++◌, map, reverse, reverse-reverse, concat, eq-nil-or-concat, concat-eq-append}
 use native.Mathlib.Omega.{arith}
 use native.Mathlib.Numerals.{add-one}
 use native.Mathlib.Decide.{dec_lt}
@@ -73,16 +74,14 @@ area_at (suc n) (x ∷ xs) zero h = refl
 area_at (suc n) (x ∷ xs) (suc j) h = area_at n xs j (omega arith)
 
 -- finishing order, from numbers and back
--- a row that is not empty by its last element, which the library gives only as the value of `last`
-split_last : {A : Type 0} (x : A) (xs : List A) → (ys : List A) × (y : A) × (x ∷ xs ≡ ys ++ (y ∷ []))
-split_last x [] = ([], x, refl)
-split_last {A} x (z ∷ xs) = let r = split_last z xs in (x ∷ r.0, r.1, ap (λ (l : List A). x ∷ l) r.2)
-
 finishing_numbered : {A : Type 0} (xs : List (List A)) → 0 < length xs → finishing (numbered xs) ≡ xs
-finishing_numbered [] h = absurd (omega arith)
-finishing_numbered (x ∷ xs) h =
-    let r = split_last x xs in
-    ap (λ (l : List (List _)). finishing (numbered l)) r.2 ∙ ap finishing (numbered_finishing (r.1 ∷ r.0)) ∙ sym r.2
+finishing_numbered {A} xs h = go (eq-nil-or-concat xs)
+  where
+    go : (xs ≡ []) ⊎ ((ys : List (List A)) × (y : List A) × (xs ≡ concat ys y)) → finishing (numbered xs) ≡ xs
+    go (inl e) = absurd (omega (arith, ap length e))
+    go (inr r) =
+        let e : xs ≡ r.0 ++ (r.1 ∷ []) = r.2 ∙ concat-eq-append r.0 r.1 in
+        ap (λ (l : List (List A)). finishing (numbered l)) e ∙ ap finishing (numbered_finishing (r.1 ∷ r.0)) ∙ sym e
 
 module _ {F w : List ℕ} (h : Lowered F w) where
   abbrev es : List (List Entry)

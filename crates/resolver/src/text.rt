@@ -87,8 +87,8 @@ fn beside_strings(registers: u8, params: usize) -> usize
     if registers <= 1 { 4 } else { 7 + params }
 }
 
-// A later value of a Push has the data of a first one. Codes stay numbers: they come from the lent slice, and each that has no arm below is one of some
-// hundred actions without data.
+// A later value of a Push has the data of a first one. Codes stay numbers: they come from the lent slice, and each that has no arm below is one of the
+// many actions without data.
 fn kind_of(code: u32) -> u32
     ensures { result ≡ kind_of code }
 {

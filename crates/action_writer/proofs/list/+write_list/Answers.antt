@@ -1,5 +1,5 @@
 use Rattle.std.proofs.Common.{refl, ◌∙◌, arith}
-use Rattle.action_writer.proofs.Building.{writable_at, building_start, defines, header_room, body_room, function_next, action_room, action_next, first_room, first_next, later_fits, later_next}
+use Rattle.action_writer.proofs.Building.{writable_at, building_start, defines, header_room, body_room, function_next, action_room, action_next, first_next, later_fits, later_next}
 use Rattle.action_writer.proofs.list.+write_list.Goals as goal
 
 pub loop-e-init : goal.loop-e-init
@@ -32,9 +32,6 @@ loop-e-preserved-then-entry-lt-FIRST_VALUE t c = record {
   same_output = c.action.ensures.same_output ∙ c.loop-e.invariant.same_output;
   building = action_next (writable_at c.requires.writable c.args.lists.now.counted c.requires.j_bound) c.args.w.now.output.now c.args.w.now.at c.requires.room c.loop-e.invariant.building (rw c.start-e-start.ensures at c.loop-e-test.true) (rw c.entry_at-entry.ensures at c.if-entry-eq-MARK.false) (rw c.entry_at-entry.ensures at c.if-entry-eq-FUNCTION.false) (rw c.entry_at-entry.ensures at c.if-entry-lt-FIRST_VALUE.true) (rw (c.loop-e.invariant.same_script, c.entry_at-entry.ensures) at c.action.ensures.wrote);
 }
-
-pub write_first-requires-clause-room : goal.write_first-requires-clause-room
-write_first-requires-clause-room t c = rw (c.loop-e.invariant.same_script, c.entry_at-entry.ensures) (first_room (writable_at c.requires.writable c.args.lists.now.counted c.requires.j_bound) c.args.w.now.output.now c.args.w.now.at c.requires.room c.loop-e.invariant.building (rw c.start-e-start.ensures at c.loop-e-test.true) (rw c.entry_at-entry.ensures at c.if-entry-lt-FIRST_VALUE.false) (rw c.entry_at-entry.ensures at c.if-entry-lt-LATER_VALUE.true))
 
 pub loop-e-preserved-then-entry-lt-LATER_VALUE : goal.loop-e-preserved-then-entry-lt-LATER_VALUE
 loop-e-preserved-then-entry-lt-LATER_VALUE t c = record {

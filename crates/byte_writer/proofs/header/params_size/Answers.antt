@@ -1,10 +1,7 @@
-use Rattle.std.proofs.Common.{refl, ◌∙◌, arith}
-use Rattle.byte_writer.proofs.ParamLoops.{sized_start, sized_done, sized_fits, sized_next}
+use Rattle.std.proofs.Common.{◌∙◌, arith}
+use Rattle.byte_writer.proofs.ParamLoops.{sized_done, sized_fits, sized_next}
 use Rattle.byte_writer.proofs.Params.{size_of}
 use Rattle.byte_writer.proofs.header.params_size.Goals as goal
-
-pub loop-tree-init : goal.loop-tree-init
-loop-tree-init c = rw c.into_iter-tree-iterator.ensures.into_iter_gives (refl, sized_start _ _ c.args.wide c.args.params.now.within)
 
 pub overflow_add-size : goal.overflow_add-size
 overflow_add-size c =
