@@ -4,7 +4,7 @@ use mathlib.Core.Path.{◌≡◌, refl, ap, sym, ◌∙◌}
 use mathlib.Core.List.{List}
 use mathlib.Core.Bool.{Bool, true, false, cond}
 use native.Mathlib.Omega.{arith}
-use lib.Dec.{T, leb}
+use lib.Dec.{leb}
 use lib.ListN.{length}
 use borrow.Author.Tests.{eq-eqb}
 use Rattle.std.specs.Prelude.{Result, Ok, Err, IsErrAnd}
@@ -17,6 +17,7 @@ use Rattle.action_format.specs.Offsets.{all_near}
 use Rattle.action_format.specs.Encode as encoded
 use Rattle.action_format.specs.Encode.{short, encode}
 use Rattle.action_format.specs.ByList.{body_bytes}
+use Rattle.action_format.proofs.Tests.{is_true}
 use Rattle.list_slice.specs.Words.{zeros_of}
 use Rattle.definition.specs.Outcome.{compiled, refused, by_place}
 use Rattle.definition.specs.Compile.{lists_of, written, if_lowered}
@@ -28,10 +29,6 @@ use Rattle.resolver.proofs.Stand.{stands}
 use Rattle.action_writer.specs.Bodies.{body_at}
 use Rattle.action_writer.specs.Outcomes.{Leaves, top_bytes, top_outcome, Measured}
 use Rattle.action_writer.proofs.Ready.{same_lists, held}
-
-is_true : (b : Bool) → T b → b ≡ true
-is_true true h = refl
-is_true false h = absurd h
 
 module _ {F w : List ℕ} (h : Lowered F w) {sizes offsets : List ℕ} where
   pub refused_leaves : {r : Result ℕ Refusal} → Resolves F w h.lists sizes offsets r → {x : Refusal} → r ≡ Err x → (a : Result ℕ Refusal) → IsErrAnd a (λ y. y ≡ x) →

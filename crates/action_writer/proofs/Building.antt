@@ -14,9 +14,9 @@ use Rattle.byte_writer.specs.declared.Writer.{Writer}
 use Rattle.byte_writer.specs.Writer.{Writes, Frames}
 use Rattle.byte_writer.proofs.Writes.{written_long, wrote_none, wrote_then, written_append, written_over}
 use Rattle.byte_writer.proofs.Frames.{frame_length, framed_length}
-use Rattle.resolver.specs.Walk.{start_of, end_of}
+use Rattle.resolver.specs.Walk.{count_of, start_of, end_of}
 use Rattle.action_writer.specs.Bodies.{body_at, items_from, bytes_of}
-use Rattle.action_writer.specs.Steps.{Joined, Joins, an-action, a-first-value, a-later-value, sort_of, OpenIn, Defines, Acts, Begins, Continues, Step, WritableList}
+use Rattle.action_writer.specs.Steps.{Joined, Joins, an-action, a-first-value, a-later-value, sort_of, OpenIn, Defines, Acts, Begins, Continues, Step, WritableList, Writable}
 
 -- a value written, and the length of the record that began there
 pub later_joins : {w w₁ w₂ : Writer} {begun : ℕ} {v : Bytes} → Writes w v w₁ → Frames w₁ begun 0x96 w₂ → Joins w begun v w₂
@@ -65,6 +65,11 @@ pub record Building (F : List ℕ) (l : Layout) (w sizes offsets : List ℕ) (j 
   pub high : i ≤ end_of w j
   pub wrote : Wrote o at (bytes_of F w j (items_from F w j i)) next o'
   pub opened : OpenIn F l w sizes offsets j 0 (items_from F w j i) at begun
+
+-- one of the lists, by their counted number
+pub writable_at : {F : List ℕ} {l : Layout} {w sizes offsets : List ℕ} → Writable F l w sizes offsets → {n : ℕ} → n ≡ count_of w → {j : ℕ} → j < n →
+    WritableList F l w sizes offsets j
+writable_at h e {j} k = h.list j (omega (arith, e))
 
 module _ {F : List ℕ} {l : Layout} {w sizes offsets : List ℕ} {j : ℕ} (s : WritableList F l w sizes offsets j) (o : List ℕ) (at : ℕ) where
   pub building_start : Building F l w sizes offsets j o at o (end_of w j) at at
@@ -142,9 +147,6 @@ module _ {F : List ℕ} {l : Layout} {w sizes offsets : List ℕ} {j : ℕ} (s :
     module _ (g : 0x110 ≤ get_or w (e * 3) 0) (h : get_or w (e * 3) 0 < 0x120) where
       pub begins : Begins F l w sizes offsets j e
       begins = subst (Step F l w sizes offsets j e) (first_sort (get_or w (e * 3) 0) g h) step
-
-      pub first_room : Room o' next (framed 0x96 value')
-      first_room = room_for _ begins.adds
 
       pub first_next : {n : ℕ} {o₁ : List ℕ} → Wrote o' next (framed 0x96 value') n o₁ → Building F l w sizes offsets j o at o₁ e n next
       first_next k = next_is begins.adds k (rw given.after (begins.opens at))

@@ -5,7 +5,6 @@ use mathlib.Core.List.{List, [], ◌∷◌, ◌++◌, map}
 use mathlib.Core.Bool.{Bool, true, false, cond, ◌&&◌}
 use mathlib.Core.Option.{none, some, get_or}
 use native.Mathlib.Omega.{arith}
-use native.Mathlib.Nat.{div-div-eq-div-mul}
 use lib.Dec.{T, leb, ltb, eqb, ltb→lt}
 use lib.ListN.{length, length-map}
 use borrow.Author.Tests.{ltb-true, ltb-false, lt-leb, le-leb}
@@ -37,53 +36,9 @@ bit_is zero h = refl
 bit_is (suc zero) h = refl
 bit_is (suc (suc n)) h = let z : ⊥ = omega arith in absurd z
 
--- the lowest bit and the others
-low_512 : (n : ℕ) → n % 512 ≡ n % 2 + 2 * (n / 2 % 256)
-low_512 n = omega arith
-
-low_256 : (n : ℕ) → n % 256 ≡ n % 2 + 2 * (n / 2 % 128)
-low_256 n = omega arith
-
-low_128 : (n : ℕ) → n % 128 ≡ n % 2 + 2 * (n / 2 % 64)
-low_128 n = omega arith
-
-low_64 : (n : ℕ) → n % 64 ≡ n % 2 + 2 * (n / 2 % 32)
-low_64 n = omega arith
-
-low_32 : (n : ℕ) → n % 32 ≡ n % 2 + 2 * (n / 2 % 16)
-low_32 n = omega arith
-
-low_16 : (n : ℕ) → n % 16 ≡ n % 2 + 2 * (n / 2 % 8)
-low_16 n = omega arith
-
-low_8 : (n : ℕ) → n % 8 ≡ n % 2 + 2 * (n / 2 % 4)
-low_8 n = omega arith
-
-low_4 : (n : ℕ) → n % 4 ≡ n % 2 + 2 * (n / 2 % 2)
-low_4 n = omega arith
-
-halves : (c k : ℕ) → c / k / 2 ≡ c / (k * 2)
-halves c k = div-div-eq-div-mul c k 2
-
+-- nine bits are the number that they write: the library has two digits of a number, and no nine
 bits : (c : ℕ) → c % 2 + 2 * (c / 2 % 2 + 2 * (c / 4 % 2 + 2 * (c / 8 % 2 + 2 * (c / 16 % 2 + 2 * (c / 32 % 2 + 2 * (c / 64 % 2 + 2 * (c / 128 % 2 + 2 * (c / 256 % 2)))))))) ≡ c % 512
-bits c =
-    rw (
-      low_512 c,
-      low_256 (c / 2),
-      halves c 2,
-      low_128 (c / 4),
-      halves c 4,
-      low_64 (c / 8),
-      halves c 8,
-      low_32 (c / 16),
-      halves c 16,
-      low_16 (c / 32),
-      halves c 32,
-      low_8 (c / 64),
-      halves c 64,
-      low_4 (c / 128),
-      halves c 128,
-    )
+bits c = omega arith
 
 marks_are : (c : ℕ) → marks_word (marks_of c) ≡ c % 512
 unfolding marks_word

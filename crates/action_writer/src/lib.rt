@@ -16,10 +16,10 @@ use byte_writer::Writer;
 use refusal::Refusal;
 use resolver::lists::Lists;
 use resolver::passes::Tables;
-use resolver::resolve;
+use slice_words::MAX_ENTRIES;
 use zeros::clear_bytes;
 
-// The code of End, which the top list ends in.
+// The code of End, which the top list ends in: a byte of the format, and no place in a table.
 const END: u8 = 0;
 
 // The top list's body and End.
@@ -44,6 +44,7 @@ fn write_top(lists: &Lists, tables: &Tables, output: &mut [u8]) -> Result<usize,
 }
 
 // The action bytes of the lists that the list slice holds for a script file, then zeros; after a refusal only zeros. How many bytes were written.
+// The three slices are lent one by one, as the C call has them; `Lists` and `Writer` join them from here on.
 pub fn write(file: &[u8], list: &[u32], output: &mut [u8]) -> Result<usize, Refusal>
     requires { Lowered file.now list.now }
     ensures { Leaves (if_lowered (lists_of limits01 file.now) (length output.old)) (length output.old) result output.new }
@@ -52,8 +53,8 @@ pub fn write(file: &[u8], list: &[u32], output: &mut [u8]) -> Result<usize, Refu
     let lists = Lists::new(file, list);
     let mut tables = Tables {
         sizes: [0; 1024],
-        offsets: [0; 4096],
+        offsets: [0; MAX_ENTRIES],
     };
-    resolve(&lists, &mut tables)?;
+    lists.resolve(&mut tables)?;
     write_top(&lists, &tables, output)
 }

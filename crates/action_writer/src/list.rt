@@ -10,9 +10,6 @@ use resolver::lists::Lists;
 use resolver::passes::Tables;
 use slice_words::{Entry, code, entry_at};
 
-// The code of a Push.
-const PUSH: u32 = 0x96;
-
 // A Push with its first value.
 fn write_first(w: &mut Writer, entry: Entry)
     requires short { let s = w.old.script in length (value_data s.bytes.now s.layout (entry.code % 16) entry.first entry.second) ≤ 65535 }
@@ -21,7 +18,7 @@ fn write_first(w: &mut Writer, entry: Entry)
 {
     let begun = w.begin();
     w.value(entry);
-    w.frame(begun, PUSH);
+    w.frame(begun, code::PUSH);
 }
 
 // A later value of the Push whose record began there: the record's length is written anew.
@@ -33,16 +30,15 @@ fn write_later(w: &mut Writer, begun: usize, entry: Entry)
     ensures { let s = w.old.script in Joins w.old begun (value_data s.bytes.now s.layout (entry.code % 16) entry.first entry.second) w.new }
 {
     w.value(entry);
-    w.frame(begun, PUSH);
+    w.frame(begun, code::PUSH);
 }
 
 // The list at place j of the finishing order. A function's list has finished before the list that holds the function.
 pub fn write_list(lists: &Lists, tables: &Tables, j: usize, w: &mut Writer)
-    requires writable { let s = lists.now.script in Writable s.bytes.now s.layout lists.now.list.now tables.now.sizes tables.now.offsets }
+    requires writable { let s = w.old.script in Writable s.bytes.now s.layout lists.now.list.now tables.now.sizes tables.now.offsets }
     requires j_bound { j < lists.now.count }
-    requires script { w.old.script ≡ lists.now.script }
-    requires room { HasRoom w.old (body_at lists.now.script.bytes.now lists.now.list.now j) }
-    ensures { Writes w.old (body_at lists.now.script.bytes.now lists.now.list.now j) w.new }
+    requires room { HasRoom w.old (body_at w.old.script.bytes.now lists.now.list.now j) }
+    ensures { Writes w.old (body_at w.old.script.bytes.now lists.now.list.now j) w.new }
 {
     let mut begun = w.at;
     for e in (lists.start(j)..lists.end(j)).rev() {

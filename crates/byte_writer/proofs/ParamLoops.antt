@@ -42,9 +42,6 @@ module _ (F : List ℕ) (l : Layout) (wide : Bool) where
     params_more =
         rw (trees_more F l left node h, join_append (param_data wide) (params_of (trees F r.before)) (param (rec_of F r.root) ∷ []), append-nil last_data)
 
-    pub params_less : r.before.n < left.n
-    params_less = omega (arith, node.apart)
-
   -- how many bytes they take
 
   pub record Sized (p : Part) (size : ℕ) (left : Part) : Type 0 where
@@ -61,8 +58,8 @@ module _ (F : List ℕ) (l : Layout) (wide : Bool) where
     pub sized_fits : size + n ≤ length (data_of p)
     sized_fits = omega (arith, i.whole, sizes)
 
-    pub sized_next : Sized p (size + n) r.before
-    sized_next = record { within = (node i.within h e).rest_within; whole = omega (arith, i.whole, sizes) }
+    pub sized_next : {rest : Part} → rest ≡ (node_of F l left).before → Sized p (size + n) rest
+    sized_next b = rw (b ∙ ap (λ (n : Node Part). n.before) (sym e)) (record { within = (node i.within h e).rest_within; whole = omega (arith, i.whole, sizes) })
 
   -- written before what stands after them
 
@@ -96,13 +93,13 @@ module _ (F : List ℕ) (l : Layout) (wide : Bool) where
     pub backward_room : Room o at (data_of p) → Room o' (next - n) data'
     backward_room k = omega (arith, b.place, left_sizes, d, b.wrote.long, ap length b.whole, length-append (data_of left) b.rest)
 
-    pub backward_next : {m : ℕ} {o'' : List ℕ} → Wrote o' (next - n) data' m o'' → Backward p o at end o'' (next - n) r.before
-    backward_next q =
-        let k : next ≡ next - n + length data' = omega (arith, b.place, left_sizes, d) in
-        record {
+    pub backward_next : {rest : Part} → rest ≡ (node_of F l left).before → {m : ℕ} {o'' : List ℕ} → Wrote o' (next - n) data' m o'' → Backward p o at end o'' (next - n) rest
+    backward_next k q =
+        let z : next ≡ next - n + length data' = omega (arith, b.place, left_sizes, d) in
+        rw (k ∙ ap (λ (x : Node Part). x.before) (sym e)) (record {
           within = (node b.within h e).rest_within;
           rest = data' ++ b.rest;
           whole = rw (b.whole, params_more b.within h e, append_assoc (data_of r.before) data' b.rest);
-          wrote = wrote_before {x = data'} (rw (← k) b.wrote) q;
+          wrote = wrote_before {x = data'} (rw (← z) b.wrote) q;
           place = omega (arith, b.place, left_sizes);
-        }
+        })

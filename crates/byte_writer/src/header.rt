@@ -1,5 +1,7 @@
 // Headers of functions.
 ghost use Rattle.std.specs.Prelude.{◌≡◌, ◌+◌, ◌≤◌, length};
+ghost use Rattle.std.specs.Int.{from_bool};
+ghost use Rattle.slice_words.specs.References.{text_at, param_of};
 ghost use Rattle.script.specs.Rules.{max_bytes};
 ghost use Rattle.script_records.specs.Layout.{layout_of};
 ghost use Rattle.lowering.specs.Meaning.{param};
@@ -14,18 +16,13 @@ use decode::{Function, function_of};
 use hir::Record;
 use script_records::layout::ScriptFile;
 use script_records::part::Part;
-use slice_words::{NO_STRING, param_of, text};
+use slice_words::{NO_STRING, code, param_of, text};
 use tree::Trees;
-
-const DEFINE_FUNCTION: u32 = 0x9b;
-
-const DEFINE_FUNCTION_2: u32 = 0x8e;
 
 // How many bytes a parameter takes.
 fn param_size(script: &ScriptFile, root: Record, wide: bool) -> usize
-    requires layout { script.now.layout ≡ layout_of script.now.bytes.now }
-    requires short { length script.now.bytes.now ≤ max_bytes }
-    ensures { result ≡ length (param_data wide (param (rec_of script.now.bytes.now root))) }
+    requires { length script.now.bytes.now ≤ max_bytes }
+    ensures { result ≡ length (text_at script.now.bytes.now script.now.layout (param_of root).name) + 1 + from_bool wide }
 {
     text(script, param_of(root).name).len() + 1 + usize::from(wide)
 }
@@ -35,11 +32,8 @@ fn params_size(params: &Trees, wide: bool) -> usize
     ensures { result ≡ length (params_data wide (params_of (trees_of params.now))) }
 {
     let mut size = 0;
-    let mut left = *params;
-    while !left.is_empty() {
-        let node = left.node();
-        size += param_size(&left.script, node.root, wide);
-        left = node.before;
+    for tree in *params {
+        size += param_size(&tree.script, tree.node().root, wide);
     }
     size
 }
@@ -49,9 +43,9 @@ fn header_code(f: &Function) -> u32
     ensures { result ≡ header_code (is_wide f.now) }
 {
     if 1 < f.register_count {
-        DEFINE_FUNCTION_2
+        code::DEFINE_FUNCTION_2
     } else {
-        DEFINE_FUNCTION
+        code::DEFINE_FUNCTION
     }
 }
 
@@ -67,7 +61,7 @@ fn marks_word(marks: [bool; 9]) -> u32
 }
 
 impl Writer<'_> {
-    // A parameter of DefineFunction2 has its register before its name.
+    // A parameter of DefineFunction2 has its register before its name: that byte is all that hangs on `wide`, and the name is written either way.
     fn param(&mut self, root: Record, wide: bool)
         requires layout { self.old.script.layout ≡ layout_of self.old.script.bytes.now }
         requires short { length self.old.script.bytes.now ≤ max_bytes }
@@ -90,13 +84,11 @@ impl Writer<'_> {
     {
         let end = self.at + params_size(params, wide);
         let mut begun = end;
-        let mut left = *params;
-        while !left.is_empty() {
-            let node = left.node();
-            begun -= param_size(&left.script, node.root, wide);
+        for tree in *params {
+            let root = tree.node().root;
+            begun -= param_size(&tree.script, root, wide);
             self.at = begun;
-            self.param(node.root, wide);
-            left = node.before;
+            self.param(root, wide);
         }
         self.at = end;
     }

@@ -18,7 +18,7 @@ impl Writer<'_> {
         begun
     }
 
-    // The code and the length of a record that began there, and whose data ends here.
+    // The code and the length of a record that began there, and whose data ends here. The code is the record's first byte: it is written, and not asked.
     pub fn frame(&mut self, begun: usize, code: u32)
         requires begun_bound { begun + 3 ≤ self.old.at }
         requires in_bounds { self.old.at ≤ length self.old.output.now }
@@ -32,7 +32,8 @@ impl Writer<'_> {
         self.at = end;
     }
 
-    // The pool's n strings, whose references are the pool words of the list slice.
+    // The pool's n strings, whose references are the pool words of the list slice. The slice is no field of the writer, whose headers, values and strings
+    // need none of it: a pool alone does.
     fn pool(&mut self, list: &[u32], n: u32)
         requires n_in_bounds { pool_at01 + n ≤ length list.now }
         requires room { let s = self.old.script in HasRoom self.old (pool_data s.bytes.now s.layout list.now n) }

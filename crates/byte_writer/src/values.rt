@@ -8,25 +8,26 @@ use crate::Writer;
 use slice_words::{Entry, value};
 
 impl Writer<'_> {
-    // What follows the type of a value.
+    // What follows the type of a value. The type is a number, the byte of the format that has just been written.
     #[tactic(auto, using(crate::proofs::Writes::writing), unfolding(crate::specs::Data::operand_data))]
-    fn operand(&mut self, kind: u8, first: u32, second: u32)
-        requires { let s = self.old.script in HasRoom self.old (operand_data s.bytes.now s.layout kind first second) }
-        ensures { let s = self.old.script in Writes self.old (operand_data s.bytes.now s.layout kind first second) self.new }
+    fn operand(&mut self, kind: u8, entry: Entry)
+        requires { let s = self.old.script in HasRoom self.old (operand_data s.bytes.now s.layout kind entry.first entry.second) }
+        ensures { let s = self.old.script in Writes self.old (operand_data s.bytes.now s.layout kind entry.first entry.second) self.new }
     {
         match kind {
-            value::STRING => self.text(first),
-            value::REGISTER => self.word(1, first),
-            value::BOOLEAN => self.word(1, u32::from(first != 0)),
+            value::STRING => self.text(entry.first),
+            value::REGISTER => self.word(1, entry.first),
+            value::BOOLEAN => self.word(1, u32::from(entry.first != 0)),
             value::FLOAT => {
-                self.word(4, first);
-                self.word(4, second);
+                self.word(4, entry.first);
+                self.word(4, entry.second);
             }
-            value::INTEGER => self.word(4, first),
+            value::INTEGER => self.word(4, entry.first),
             _ => {}
         }
     }
 
+    // A constant with its type. It writes, and converts nothing that a From could.
     #[tactic(auto, using(crate::proofs::Writes::writing))]
     fn constant(&mut self, index: u32)
         requires { HasRoom self.old (constant_bytes index (leb 256 index)) }
@@ -52,7 +53,7 @@ impl Writer<'_> {
             self.constant(entry.first);
         } else {
             self.byte(kind);
-            self.operand(kind, entry.first, entry.second);
+            self.operand(kind, entry);
         }
     }
 }

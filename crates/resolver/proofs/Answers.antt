@@ -2,15 +2,17 @@
 use Prim.Native.Nat.{ℕ, zero, suc, ◌+◌, ◌-◌, ◌≤◌, ◌<◌}
 use mathlib.Core.Path.{◌≡◌, refl, sym, ap, ap₂, ◌∙◌, subst}
 use mathlib.Core.List.{List, [], ◌∷◌, ◌++◌, map, reverse, append-nil}
-use mathlib.Core.Bool.{Bool, true, false, ◌&&◌, true≢false}
+use mathlib.Core.Bool.{Bool, true, false, ◌&&◌}
 use mathlib.Core.Option.{some}
 use native.Mathlib.Omega.{arith}
 use native.Mathlib.Nat.{zero-add}
 use native.Mathlib.Decide.{dec_lt}
 use lib.Dec.{T}
 use lib.ListN.{length, get_or, get_elem?, length-map, get_or-eq_default}
-use borrow.Author.Tests.{eq-eqb, ne_eqb}
+use borrow.Author.Tests.{eq-eqb, ne_eqb, both_ways}
 use Rattle.std.specs.Prelude.{Result}
+use Rattle.std.specs.Cmp.Derive.{both_true}
+use Rattle.std.proofs.lemmas.Float.{T_from_true}
 use Rattle.refusal.specs.declared.Refusal.{Refusal}
 use Rattle.pcode.specs.Pcode.{Branching, Action, Item, plain, push, branch, define, action, mark}
 use Rattle.script.specs.Write.{Bytes}
@@ -36,18 +38,10 @@ use Rattle.resolver.specs.Passes.{walked_at, number_at, sizes_at, near_list, nea
 use Rattle.resolver.specs.Resolved.{place_at, Tables, Resolves, refused, good}
 use Rattle.resolver.proofs.Whole.{split, lists_count, walked_list}
 use Rattle.resolver.proofs.Stand.{list_by_place}
-use Rattle.resolver.proofs.Sizing.{actions_reverse, actions_append, reverse_more, body_sizes, lists, rules, body_of, sizes_at_lem, sized}
+use Rattle.action_format.proofs.ByPlace.{actions_append, actions_reverse}
+use Rattle.resolver.proofs.Sizing.{reverse_more, body_sizes, lists, rules, body_of, sizes_at_lem, sized}
 
 -- tests over a row
-
-and_comm : (a b : Bool) → a && b ≡ b && a
-and_comm true true = refl
-and_comm true false = refl
-and_comm false true = refl
-and_comm false false = refl
-
-both_true : (a b : Bool) → a ≡ true → b ≡ true → a && b ≡ true
-both_true a b p q = rw (p, q)
 
 all_last : {A : Type 0} (f : A → Bool) (xs : List A) (a : A) → all f (xs ++ (a ∷ [])) ≡ (f a && all f xs)
 all_last f [] a = refl
@@ -65,16 +59,10 @@ by-elem f xs h = true_all f xs (go xs h)
     go [] h = tt
     go (x ∷ xs) h = (h 0 x refl, go xs (λ i. h (suc i)))
 
-truth : (b : Bool) → b ≡ true → T b
-truth true e = tt
-truth false e = absurd (true≢false (sym e))
-
+-- The library gives T (not b) here; what follows is stated by equations.
 not-truth : (b : Bool) → (T b → ⊥) → b ≡ false
 not-truth true h = absurd (h tt)
 not-truth false h = refl
-
-clash : (b : Bool) → b ≡ false → T b → ⊥
-clash b e t = true≢false (sym (is_true b t) ∙ e)
 
 -- tests of items, the last item first, as tests of actions in order
 
@@ -117,14 +105,11 @@ near_last ss f i (x ∷ xs) a =
     swap false true c = refl
     swap false false c = refl
 
-count_reverse : (is : List Item) → length (actions (reverse is)) ≡ length (actions is)
-count_reverse = actions_reverse
-
 near_is : (ss : List ℕ) (f : ℕ → ℕ) (is : List Item) → all_near_in ss f is ≡ near-from ss f 0 (actions (reverse is))
 unfolding all_near_in
 near_is ss f [] = refl
 near_is ss f (action a ∷ is) =
-    ap₂ (λ (n : ℕ) (b : Bool). near_item ss f n a && b) (sym (zero-add (length (actions (reverse is))) ∙ count_reverse is)) (near_is ss f is)
+    ap₂ (λ (n : ℕ) (b : Bool). near_item ss f n a && b) (sym (zero-add (length (actions (reverse is))) ∙ actions_reverse is)) (near_is ss f is)
     ∙ sym (ap (λ (l : List Item). near-from ss f 0 (actions l)) (reverse_more (action a) is)
     ∙ ap (near-from ss f 0) (actions_append (reverse is) (action a ∷ [])) ∙ near_last ss f 0 (actions (reverse is)) a)
 near_is ss f (mark l ∷ is) =
@@ -190,7 +175,7 @@ module _ {F w : List ℕ} (h : Lowered F w) (bytes : Bytes F) where
   clear-every : (m : ℕ) → ((i : ℕ) → i < m → all_clear (walked_at F w i) ≡ true) → clear_lists F w m ≡ true
   unfolding clear_lists
   clear-every zero f = refl
-  clear-every (suc m) f = both_true (all_clear (walked_at F w m)) (clear_lists F w m) (f m (omega arith)) (clear-every m (λ i q. f i (omega arith)))
+  clear-every (suc m) f = both_true (f m (omega arith)) (clear-every m (λ i q. f i (omega arith)))
 
   near-lists : (m : ℕ) → nearLists (sized h bytes) m ≡ true → (i : ℕ) → i < m → near_list (sized h bytes) i ≡ true
   unfolding nearLists
@@ -204,7 +189,7 @@ module _ {F w : List ℕ} (h : Lowered F w) (bytes : Bytes F) where
   near-every : (m : ℕ) → ((i : ℕ) → i < m → near_list (sized h bytes) i ≡ true) → nearLists (sized h bytes) m ≡ true
   unfolding nearLists
   near-every zero f = refl
-  near-every (suc m) f = both_true (near_list (sized h bytes) m) (nearLists (sized h bytes) m) (f m (omega arith)) (near-every m (λ i q. f i (omega arith)))
+  near-every (suc m) f = both_true (f m (omega arith)) (near-every m (λ i q. f i (omega arith)))
 
   no_list : (k : ℕ) → count_of w ≤ k → list_of l k ≡ []
   no_list k y = get_or-eq_default (all_lists l) [] {n = k} (omega (arith, many))
@@ -226,11 +211,11 @@ module _ {F w : List ℕ} (h : Lowered F w) (bytes : Bytes F) where
 
   clear-true : clear_lists F w (count_of w) ≡ true → T (zero_free l)
   clear-true e =
-      every (all clear_of) tt (by_number (all clear_of) tt (λ j b. truth (all clear_of (list_of l (number_at (count_of w) j))) (sym (clear_at j b) ∙ clear-lists (count_of w) (omega arith) e j b)))
+      every (all clear_of) tt (by_number (all clear_of) tt (λ j b. T_from_true (all clear_of (list_of l (number_at (count_of w) j))) (sym (clear_at j b) ∙ clear-lists (count_of w) (omega arith) e j b)))
 
   clear-false : clear_lists F w (count_of w) ≡ false → zero_free l ≡ false
-  clear-false e = not-truth (zero_free l) (λ t. clash (clear_lists F w (count_of w)) e (truth (clear_lists F w (count_of w))
-      (clear-every (count_of w) (λ i q. clear_at i q ∙ is_true (all clear_of (list_of l (number_at (count_of w) i))) (all_at (all clear_of) (all_lists l) (number_at (count_of w) i) tt t)))))
+  clear-false e = not-truth (zero_free l) (λ t. both_ways (clear_lists F w (count_of w)) e
+      (clear-every (count_of w) (λ i q. clear_at i q ∙ is_true (all clear_of (list_of l (number_at (count_of w) i))) (all_at (all clear_of) (all_lists l) (number_at (count_of w) i) tt t))))
 
   same_short : (a : Action) → T (short_of (body_of h bytes) a) → T (action_short l a)
   same_short (plain p) t = t
@@ -247,10 +232,10 @@ module _ {F w : List ℕ} (h : Lowered F w) (bytes : Bytes F) where
   short_true : ((j : ℕ) → j < count_of w → all_short (body_of h bytes) (walked_at F w j) ≡ true) → T (short (code l))
   short_true f = (short_by_actions l (rules h bytes)).1 (λ k i a q. same_short a (elem (λ x. T (short_of (body_of h bytes) x)) (list_of l k) i a
       (all_true (short_of (body_of h bytes)) (list_of l k) (by_number (all (short_of (body_of h bytes))) tt
-      (λ j b. truth (all (short_of (body_of h bytes)) (list_of l (number_at (count_of w) j))) (sym (short_at j b) ∙ f j b)) k)) q))
+      (λ j b. T_from_true (all (short_of (body_of h bytes)) (list_of l (number_at (count_of w) j))) (sym (short_at j b) ∙ f j b)) k)) q))
 
   short-false : (j : ℕ) → j < count_of w → all_short (body_of h bytes) (walked_at F w j) ≡ false → short (code l) ≡ false
-  short-false j b e = not-truth (short (code l)) (λ t. clash (all_short (body_of h bytes) (walked_at F w j)) e (subst T (sym (short_at j b))
+  short-false j b e = not-truth (short (code l)) (λ t. both_ways (all_short (body_of h bytes) (walked_at F w j)) e (short_at j b ∙ is_true (all (short_of (body_of h bytes)) (list_of l (number_at (count_of w) j)))
       (by-elem (short_of (body_of h bytes)) (list_of l (number_at (count_of w) j)) (λ i a q. same_back a ((short_by_actions l (rules h bytes)).0 t (number_at (count_of w) j) i a q)))))
 
   -- refusal 11's test of a list
@@ -274,7 +259,7 @@ module _ {F w : List ℕ} (h : Lowered F w) (bytes : Bytes F) where
     near-go i [] t m a q = never a q
     near-go i (x ∷ xs) t zero a q =
         let z : i + 0 ≡ i = omega arith in
-        subst (λ (y : Action). T (action_near l (number_at (count_of w) j) (i + 0) y)) (some_of q) (rw z (one x (truth (near_item ss f i x) (first (near_item ss f i x) (near-from ss f (suc i) xs) (is_true (near-from ss f i (x ∷ xs)) t)))))
+        subst (λ (y : Action). T (action_near l (number_at (count_of w) j) (i + 0) y)) (some_of q) (rw z (one x (T_from_true (near_item ss f i x) (first (near_item ss f i x) (near-from ss f (suc i) xs) (is_true (near-from ss f i (x ∷ xs)) t)))))
       where
         one : (x : Action) → T (near_item ss f i x) → T (action_near l (number_at (count_of w) j) i (rebranch f x))
         one (plain p) t = tt
@@ -283,13 +268,13 @@ module _ {F w : List ℕ} (h : Lowered F w) (bytes : Bytes F) where
         one (define y n) t = tt
     near-go i (x ∷ xs) t (suc m) a q =
         let z : i + suc m ≡ suc i + m = omega arith in
-        rw z (near-go (suc i) xs (truth (near-from ss f (suc i) xs) (second (near_item ss f i x) (near-from ss f (suc i) xs) (is_true (near-from ss f i (x ∷ xs)) t))) m a q)
+        rw z (near-go (suc i) xs (T_from_true (near-from ss f (suc i) xs) (second (near_item ss f i x) (near-from ss f (suc i) xs) (is_true (near-from ss f i (x ∷ xs)) t))) m a q)
 
     near-back : (i : ℕ) (xs : List Action) → ((m : ℕ) (a : Action) → get_elem? (map (rebranch f) xs) m ≡ some a → T (action_near l (number_at (count_of w) j) (i + m) a)) →
         near-from ss f i xs ≡ true
     near-back i [] g = refl
     near-back i (x ∷ xs) g =
-        both_true (near_item ss f i x) (near-from ss f (suc i) xs) (one x (let z : i + 0 ≡ i = omega arith in rw z at (g 0 (rebranch f x) refl)))
+        both_true (one x (let z : i + 0 ≡ i = omega arith in rw z at (g 0 (rebranch f x) refl)))
         (near-back (suc i) xs (λ m a q. let z : i + suc m ≡ suc i + m = omega arith in rw z at (g (suc m) a q)))
       where
         one : (x : Action) → T (action_near l (number_at (count_of w) j) i (rebranch f x)) → near_item ss f i x ≡ true
@@ -307,17 +292,17 @@ module _ {F w : List ℕ} (h : Lowered F w) (bytes : Bytes F) where
           let x = number-index (count_of w) k y in
           let j : ℕ = index_of (count_of w) k in
           let t : T (near-from (ss j x.0) (f j x.0) 0 (actions (is j x.0))) =
-          truth (near-from (ss j x.0) (f j x.0) 0 (actions (is j x.0))) (sym (near_at_lem j x.0) ∙ near-lists (count_of w) e j x.0) in
+          T_from_true (near-from (ss j x.0) (f j x.0) 0 (actions (is j x.0))) (sym (near_at_lem j x.0) ∙ near-lists (count_of w) e j x.0) in
           let q' : get_elem? (map (rebranch (f j x.0)) (actions (is j x.0))) i ≡ some a =
           ap (λ (xs : List Action). get_elem? xs i) (sym (list_by_place h.lists (number_at (count_of w) j)) ∙ ap (list_of l) x.1) ∙ q in
           let u : 0 + i ≡ i = omega arith in
           subst (λ (m : ℕ). T (action_near l m i a)) x.1 (rw u at (near-go j x.0 0 (actions (is j x.0)) t i a q'))
 
   near-false : nearLists (sized h bytes) (count_of w) ≡ false → all_near (code l) ≡ false
-  near-false e = not-truth (all_near (code l)) (λ t. clash (nearLists (sized h bytes) (count_of w)) e (truth (nearLists (sized h bytes) (count_of w))
+  near-false e = not-truth (all_near (code l)) (λ t. both_ways (nearLists (sized h bytes) (count_of w)) e
       (near-every (count_of w) (λ j b. near_at_lem j b ∙ near-back j b 0 (actions (is j b))
       (λ m a q. let u : 0 + m ≡ m = omega arith in rw u ((near_by_actions l (rules h bytes)).0 t (number_at (count_of w) j) m a
-      (ap (λ (xs : List Action). get_elem? xs m) (list_by_place h.lists (number_at (count_of w) j)) ∙ q)))))))
+      (ap (λ (xs : List Action). get_elem? xs m) (list_by_place h.lists (number_at (count_of w) j)) ∙ q))))))
 
   -- the tables
   module _ {near : Bool} {sizes offsets : List ℕ} (d : Done (sized h bytes) (count_of w) near sizes offsets) where

@@ -2,7 +2,7 @@
 use Prim.Native.Nat.{ℕ, ◌+◌, ◌*◌, ◌≤◌, ◌<◌}
 use mathlib.Core.Path.{◌≡◌, refl, sym, ap, ap₂, ◌∙◌, subst}
 use mathlib.Core.List.{List, map}
-use mathlib.Core.Bool.{Bool, true, false, cond, ◌&&◌}
+use mathlib.Core.Bool.{Bool, true, false, cond, ◌&&◌, and-true}
 use native.Mathlib.Omega.{arith}
 use lib.Dec.{T, ltb, leb}
 use lib.ListN.{length, get_or, take, length-append}
@@ -100,17 +100,13 @@ module _ (F w : List ℕ) where
   abbrev text_value : ℕ → Data
   text_value s = data_of (length (value_bytes (value_of (references_in F w) (String s)))) (no_zero (text_in F s) && true)
 
-  and_true : (b : Bool) → b && true ≡ b
-  and_true true = refl
-  and_true false = refl
-
   string_value : (s : ℕ) → string_data (text_in F s) 1 ≡ text_value s
   unfolding zero_ended
-  string_value s = ap₂ data_of (simp length-append (omega arith)) (sym (and_true (no_zero (text_in F s))))
+  string_value s = ap₂ data_of (simp length-append (omega arith)) (sym (and-true (no_zero (text_in F s))))
 
   string_label : (s : ℕ) → string_data (text_in F s) 0 ≡ data_of (length (zero_ended (text_in F s))) (no_zero (text_in F s) && true)
   unfolding zero_ended
-  string_label s = ap₂ data_of (simp length-append (omega arith)) (sym (and_true (no_zero (text_in F s))))
+  string_label s = ap₂ data_of (simp length-append (omega arith)) (sym (and-true (no_zero (text_in F s))))
 
   constant_value : (i : ℕ) → constant_data i ≡ data_of (length (constant_bytes i (leb 256 i))) true
   unfolding word

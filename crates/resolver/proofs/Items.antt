@@ -1,13 +1,14 @@
 -- What an entry adds to the items before it: actions, bytes, tests and marks.
-use Prim.Native.Nat.{ℕ, suc, ◌+◌, ◌-◌, ◌≤◌, ◌<◌}
-use mathlib.Core.Path.{◌≡◌, refl, sym, ap, ap₂, ◌∙◌, subst}
+use Prim.Native.Nat.{ℕ, ◌+◌, ◌-◌, ◌≤◌, ◌<◌}
+use mathlib.Core.Path.{◌≡◌, refl, sym, ap, ◌∙◌, subst}
 use mathlib.Core.List.{List, [], ◌∷◌, ◌++◌}
-use mathlib.Core.Bool.{Bool, true, false, cond, ◌&&◌}
+use mathlib.Core.Bool.{Bool, true, false, cond, ◌&&◌, and-true, and-false, and_comm, and_assoc}
 use native.Mathlib.Omega.{arith}
 use lib.Dec.{ltb, leb, eqb}
 use lib.ListN.{length, length-append}
 use borrow.Author.Tests.{lt-ltb, le-ltb, ltb-true, ltb-false, ne_eqb, le-leb, lt-leb, leb-true, leb-false}
 use Rattle.std.specs.Prelude.{Option, Some, None}
+use Rattle.std.proofs.lemmas.List.{same_from_push}
 use Rattle.pcode.specs.declared.Op.{Op}
 use Rattle.pcode.specs.Pcode.{Header, DefineFunction, DefineFunction2, Value, Plain, Action, Item, plain, push, branch, define, action, mark, row_of, Jump, If}
 use Rattle.hir.specs.Hir.{Str}
@@ -101,18 +102,6 @@ sum_append : (xs : List ℕ) (m : ℕ) → sum (xs ++ (m ∷ [])) ≡ sum xs + m
 sum_append [] m = omega arith
 sum_append (x ∷ xs) m = omega (arith, sum_append xs m)
 
--- the last of two rows
-last_same : (xs ys : List ℕ) (m n : ℕ) → xs ++ (m ∷ []) ≡ ys ++ (n ∷ []) → (xs ≡ ys) × (m ≡ n)
-last_same [] [] m n e = (refl, cc)
-last_same [] (y ∷ []) m n e = let z : ◌≡◌ {A = ℕ} 1 2 = ap length e in absurd (omega arith)
-last_same [] (y ∷ x ∷ ys) m n e = let z : 1 ≡ suc (suc (length (ys ++ (n ∷ [])))) = ap length e in absurd (omega arith)
-last_same (x ∷ []) [] m n e = let z : ◌≡◌ {A = ℕ} 2 1 = ap length e in absurd (omega arith)
-last_same (x ∷ y ∷ xs) [] m n e = let z : suc (suc (length (xs ++ (m ∷ [])))) ≡ 1 = ap length e in absurd (omega arith)
-last_same (x ∷ xs) (y ∷ ys) m n e =
-    let k : xs ++ (m ∷ []) ≡ ys ++ (n ∷ []) = cc in
-    let h : x ≡ y = cc in
-    let r = last_same xs ys m n k in (ap₂ ◌∷◌ h r.0, r.1)
-
 module _ (B : ℕ → ℕ) {w : Walk} (u : Value) (us : List Value) (rest : List Item) (v : Value) (q : Counts B (action (push (u ∷ us)) ∷ rest) w) (d : ℕ) where
   abbrev old : List Value
   old = u ∷ us
@@ -140,7 +129,7 @@ module _ (B : ℕ → ℕ) {w : Walk} (u : Value) (us : List Value) (rest : List
   new_counts e n = record {
     actions = q.actions ∙ simp length-append refl;
     bytes = rw (sum_append (measures B rest) (length (single_bytes (pushing new))), push_size new, grown e) (omega (arith, old_bytes));
-    last = λ ss m z. old_last ∙ ap sum (last_same (measures B rest) ss (length (single_bytes (pushing new))) m z).0;
+    last = λ ss m z. old_last ∙ ap sum (same_from_push (measures B rest) ss (length (single_bytes (pushing new))) m z).0;
     short = rw (le-leb (length (join value_bytes new)) 65535 n, rest_short);
   }
 
@@ -169,7 +158,7 @@ module _ (B : ℕ → ℕ) {is : List Item} {w : Walk} (k : Counts B is w) where
       go true true e = counted (record {
         actions = simp length-append (omega (arith, k.actions));
         bytes = rw (sum_append (measures B is) (size_of B a)) (omega (arith, k.bytes, size));
-        last = λ ss m q. k.bytes ∙ ap sum (last_same (measures B is) ss (size_of B a) m q).0;
+        last = λ ss m q. k.bytes ∙ ap sum (same_from_push (measures B is) ss (size_of B a) m q).0;
         short = rw e k.short;
       })
       go true false e = uncounted (rw e)
@@ -207,15 +196,11 @@ module _ (r : References) (B : ℕ → ℕ) {is : List Item} {w : Walk} (k : Cou
       op_size : (c : ℕ) → length (framed c [] (leb 128 c)) ≡ frame c + 0 + 0
       op_size c = go c (ltb c 128) refl
 
-  and_true : (b : Bool) → b && true ≡ b
-  and_true true = refl
-  and_true false = refl
-
   first_value : (c : ℕ) (v : Pushed) → c < 0x120 → 0x110 ≤ c → Stepped B (action (push (value_of r v ∷ [])) ∷ is) (stepped w c (length (value_bytes (value_of r v))) 0)
   first_value c v low high =
       record_law B k (push (value_of r v ∷ [])) c (length (value_bytes (value_of r v))) 0 low (λ e. omega arith)
       (rw (le-ltb c 128 (omega arith), push_size (value_of r v ∷ []), one_value (value_of r v)) (omega arith))
-      (rw (one_value (value_of r v)) (sym (and_true _)))
+      (rw (one_value (value_of r v)) (sym (and-true _)))
     where
       one_value : (v : Value) → length (join value_bytes (v ∷ [])) ≡ length (value_bytes v)
       one_value v = simp length-append (omega arith)
@@ -224,11 +209,11 @@ module _ (r : References) (B : ℕ → ℕ) {is : List Item} {w : Walk} (k : Cou
   pub step_law : (p : Piece) → All Fine (added r p is) → Stepped B (added r p is) (stepped w (entry_of p).code (piece_data r p) (piece_body B p))
   unfolding piece_data word
   step_law (Piece.op o) h = op_law o
-  step_law (Piece.ConstantPool n) h = record_law B k _ 0x88 (length (single_data (simple (Plain.ConstantPool (r.strings n))))) 0 (omega arith) (λ e. omega arith) (omega arith) (sym (and_true _))
+  step_law (Piece.ConstantPool n) h = record_law B k _ 0x88 (length (single_data (simple (Plain.ConstantPool (r.strings n))))) 0 (omega arith) (λ e. omega arith) (omega arith) (sym (and-true _))
   step_law (Piece.StoreRegister n) h = record_law B k _ 0x87 1 0 (omega arith) (λ e. omega arith) refl refl
   step_law (Piece.GotoFrame n) h = record_law B k _ 0x81 2 0 (omega arith) (λ e. omega arith) refl refl
   step_law (Piece.GotoFrame2 b) h = record_law B k _ 0x9F 1 0 (omega arith) (λ e. omega arith) refl refl
-  step_law (Piece.GotoLabel s) h = record_law B k _ 0x8C (length (single_data (simple (Plain.GotoLabel (r.text s))))) 0 (omega arith) (λ e. omega arith) (omega arith) (sym (and_true _))
+  step_law (Piece.GotoLabel s) h = record_law B k _ 0x8C (length (single_data (simple (Plain.GotoLabel (r.text s))))) 0 (omega arith) (λ e. omega arith) (omega arith) (sym (and-true _))
   step_law (Piece.branch Jump l) h = record_law B k _ 0x99 2 0 (omega arith) (λ e. omega arith) refl refl
   step_law (Piece.branch If l) h = record_law B k _ 0x9D 2 0 (omega arith) (λ e. omega arith) refl refl
   step_law (Piece.function n f) h =
@@ -254,34 +239,18 @@ module _ (r : References) (B : ℕ → ℕ) {is : List Item} {w : Walk} (k : Cou
 
 -- tests
 
-and_false : (b : Bool) → b && false ≡ false
-and_false true = refl
-and_false false = refl
-
-and_comm : (a b : Bool) → a && b ≡ b && a
-and_comm true true = refl
-and_comm true false = refl
-and_comm false true = refl
-and_comm false false = refl
-
-and_assoc : (a b c : Bool) → (a && b) && c ≡ a && (b && c)
-and_assoc true b c = refl
-and_assoc false b c = refl
-
 all_both : (xs ys : List Str) → all no_zero (xs ++ ys) ≡ (all no_zero xs && all no_zero ys)
 all_both [] ys = refl
 all_both (x ∷ xs) ys = rw (all_both xs ys) (sym (and_assoc (no_zero x) (all no_zero xs) (all no_zero ys)))
 
+-- The library has no lemma of this shape: it speaks of this limit, and of what stays when a record grows.
 longer : (m n : ℕ) (t : Bool) → m ≤ n → (leb m 65535 && t) ≡ false → (leb n 65535 && t) ≡ false
-longer m n false h e = and_false (leb n 65535)
+longer m n false h e = and-false (leb n 65535)
 longer m n true h e = rw (lt-leb n 65535 (omega (arith, leb-false m 65535 (and_comm true (leb m 65535) ∙ e))))
 
 short_action : (B : ℕ → ℕ) (a : Action) (is : List Item) → all_short B is ≡ false → all_short B (action a ∷ is) ≡ false
 unfolding all_short
-short_action B a is e = rw e (and_false (short_of B a))
-
-small_code : (c : ℕ) → c < 256 → c ≡ 257 → ⊥
-small_code c h e = omega arith
+short_action B a is e = rw e (and-false (short_of B a))
 
 later_adds : (v : Value) (is : List Item) → All Fine (extended v is) → length (actions (extended v is)) ≡ length (actions is) + 0
 later_adds v is h = go is (later_pushes v is h)
@@ -377,7 +346,7 @@ module _ (r : References) where
 
   pub marks_law : (p : Piece) (is : List Item) → All Fine (added r p is) → Marks is (entry_of p).code (entry_of p).first (added r p is)
   unfolding spots
-  marks_law (Piece.op o) is h = let q = op_says (row_of o).code (op_code o) in other (ne_eqb (row_of o).code 257 (small_code (row_of o).code q.small)) (λ l. refl)
+  marks_law (Piece.op o) is h = let q = op_says (row_of o).code (op_code o) in other (ne_eqb (row_of o).code 257 (λ e. omega (arith, q.small))) (λ l. refl)
   marks_law (Piece.ConstantPool n) is h = other refl (λ l. refl)
   marks_law (Piece.StoreRegister n) is h = other refl (λ l. refl)
   marks_law (Piece.GotoFrame n) is h = other refl (λ l. refl)

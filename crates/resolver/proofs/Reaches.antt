@@ -5,11 +5,11 @@ use mathlib.Core.Logic.{◌⊎◌, inl, inr}
 use mathlib.Core.List.{List, ◌∷◌}
 use mathlib.Core.Bool.{Bool, true, false, cond, ◌&&◌}
 use native.Mathlib.Omega.{arith}
+use native.Mathlib.Decide.{ℕ_discrete}
 use native.Mathlib.Numerals.{add-one}
-use lib.Dec.{eqb}
 use lib.ListN.{length, get_or, set, length-set}
 use lib.Seq.{get_or-set_same, get_or-set_other}
-use borrow.Author.Tests.{ne_eqb, eqb-true, eqb-false}
+use borrow.Author.Tests.{ne_eqb}
 use Rattle.pcode.specs.Pcode.{Branching, Jump, If, Value, Item, action, branch, row_of}
 use Rattle.action_format.specs.ByPlace.{actions}
 use Rattle.action_format.specs.Offsets.{position, offset, reaches}
@@ -23,13 +23,6 @@ use Rattle.resolver.specs.Steps.{Fine, Standing, adds, is_branch, after_at, targ
 use Rattle.resolver.proofs.OpCodes.{op_code, op_says}
 use Rattle.resolver.proofs.Items.{later_pushes, Pushes, pushes, adds_law}
 use Rattle.resolver.proofs.Walking.{walked_more, walked_none, fine_next, At, at_start, at_again, adds_one}
-
-dec_eq : (a b : ℕ) → Dec (a ≡ b)
-dec_eq a b = go (eqb a b) refl
-  where
-    go : (t : Bool) → eqb a b ≡ t → Dec (a ≡ b)
-    go true e = yes (eqb-true a b e)
-    go false e = no (eqb-false a b e)
 
 -- a branch, or another entry
 
@@ -174,7 +167,7 @@ module _ {w starts places before : List ℕ} {from end i p : ℕ} {near : Bool} 
         branch_offsets : Offsets F w j end ss f before (set offsets j (offset (after_at starts p) (target_at w starts places j)))
         branch_offsets = record {
           long = length-set offsets j _ ∙ old.2.long;
-          at = λ x c m lo hi q. at_entry x c m lo hi q (dec_eq x j);
+          at = λ x c m lo hi q. at_entry x c m lo hi q (ℕ_discrete x j);
           others = λ x y. get_or-set_other offsets j x _ 0 (apart x y) ∙ old.2.others x (still x y);
         }
           where
@@ -200,7 +193,7 @@ module _ {w starts places before : List ℕ} {from end i p : ℕ} {near : Bool} 
       straight_offsets : ((b : Branching) (l : ℕ) → piece_at w j ≡ Piece.branch b l → ⊥) → Offsets F w j end ss f before offsets
       straight_offsets n = record {
         long = old.2.long;
-        at = λ x c m lo hi q. at_entry x c m lo hi q (dec_eq x j);
+        at = λ x c m lo hi q. at_entry x c m lo hi q (ℕ_discrete x j);
         others = λ x y. old.2.others x (still x y);
       }
         where

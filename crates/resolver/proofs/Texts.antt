@@ -187,15 +187,13 @@ params_start {F} {l} {p} w e =
     })
 
 module _ {F : List ℕ} {l : Layout} {p left : Part} {t : Text} (v : ParamsInv F l p left t) where
-  pub params_less : {r : Node Part} → r ≡ node_of F l left → 0 < left.n → r.before.n < left.n
-  params_less e z = omega (arith, (is_node F l left v.within e).apart)
-
-  pub params_again : {r : Node Part} → r ≡ node_of F l left → 0 < left.n → {s : Str} → s ≡ text_in F (param_of r.root).name → {t' : Text} → t' ≡ with_text s t →
-      ParamsInv F l p r.before t'
-  params_again {r} e z q u =
+  pub params_again : {r : Node Part} → r ≡ node_of F l left → 0 < left.n → {rest : Part} → rest ≡ (node_of F l left).before → {s : Str} → s ≡ text_in F (param_of r.root).name →
+      {t' : Text} → t' ≡ with_text s t → ParamsInv F l p rest t'
+  params_again {r} e z {rest} b q u =
       let i = is_node F l left v.within e in
       let s : length F ≤ 1048576 = v.within.sound.short in
-      rw (u, q) (record {
+      let k : rest ≡ r.before = b ∙ ap (λ (n : Node Part). n.before) (sym e) in
+      rw (u, q, k) (record {
         within = i.rest_within;
         same = v.same ∙ ap (λ (ss : List Str). onto ss t) (names_more F l left i (omega arith)) ∙ onto_last (names F r.before) (param (rec_of F r.root)).name t
             ∙ ap (λ (x : Str). onto (names F r.before) (with_text x t)) (sym (name_is F r.root s));

@@ -382,6 +382,7 @@ marks_placed r is c a js (marks m) places long h label p ps low e = go (ltb m 10
     go false x true y e = absurd (omega (arith, ltb-false m 1024 x, eqb-true m label y))
     go false x false y e = h label p ps low e
 
+-- the table keeps its length whether a label is marked or not; the library has this of each case alone
 placed_long : (t u : Bool) (places : List ℕ) (l p : ℕ) → length (cond t (cond u (set places l p) places) places) ≡ length places
 placed_long true true places l p = length-set places l p
 placed_long true false places l p = refl

@@ -1,7 +1,8 @@
 -- What lowering's lists give the walks: each list stands between its ends, and says the list of its number.
 use Prim.Native.Nat.{ℕ, zero, suc, ◌+◌, ◌-◌, ◌≤◌, ◌<◌}
 use mathlib.Core.Path.{◌≡◌, refl, sym, ap, ◌∙◌, subst}
-use mathlib.Core.List.{List, [], ◌∷◌, ◌++◌, map, reverse, reverse-reverse}
+use mathlib.Core.Logic.{◌⊎◌, inl, inr}
+use mathlib.Core.List.{List, [], ◌∷◌, ◌++◌, map, reverse, reverse-reverse, concat, eq-nil-or-concat, concat-eq-append}
 use native.Mathlib.Omega.{arith}
 use native.Mathlib.Numerals.{add-one}
 use native.Mathlib.Decide.{dec_lt}
@@ -15,6 +16,7 @@ use Rattle.list_slice.specs.Entry.{Entry, Piece, entries_of, piece_of}
 use Rattle.list_slice.specs.Words.{area, joined, ends_from, run, cut, keep, trimmed, ends_in, entries_in}
 use Rattle.list_slice.specs.Items.{gathered, items_of}
 use Rattle.list_slice.specs.Compiled.{finishing, numbered, label_words, lists_in}
+use Rattle.list_slice.proofs.Laid.{length_cut}
 use Rattle.list_slice.proofs.Areas.{ends_in_lem}
 use Rattle.list_slice.proofs.Parse.{recovered}
 use Rattle.list_slice.proofs.Determined.{numbered_finishing, read_back}
@@ -42,11 +44,6 @@ ends_up p (xs ∷ ls) zero h = (omega arith, omega (arith, length-append xs (joi
 ends_up p (xs ∷ ls) (suc j) h =
     let r = ends_up (p + length xs) ls j (omega arith) in
     (subst (λ (n : ℕ). n ≤ get_or (ends_from (p + length xs) ls) j 0) (sym (shifted (p + length xs) (ends_from (p + length xs) ls) j)) r.0, omega (arith, r.1, length-append xs (joined ls)))
-
-cut_length : (w : List ℕ) (p : ℕ) (es : List ℕ) → length (cut w p es) ≡ length es
-unfolding cut
-cut_length w p [] = refl
-cut_length w p (e ∷ es) = ap suc (cut_length w e es)
 
 cut_at : (w : List ℕ) (p : ℕ) (es : List ℕ) (j : ℕ) → j < length es → get_or (cut w p es) j [] ≡ run w (from_at p es j) (get_or es j 0 - from_at p es j)
 unfolding cut
@@ -77,15 +74,14 @@ area_at (suc n) (x ∷ xs) zero h = refl
 area_at (suc n) (x ∷ xs) (suc j) h = area_at n xs j (omega arith)
 
 -- finishing order, from numbers and back
-split_last : {A : Type 0} (x : A) (xs : List A) → (ys : List A) × (y : A) × (x ∷ xs ≡ ys ++ (y ∷ []))
-split_last x [] = ([], x, refl)
-split_last {A} x (z ∷ xs) = let r = split_last z xs in (x ∷ r.0, r.1, ap (λ (l : List A). x ∷ l) r.2)
-
 finishing_numbered : {A : Type 0} (xs : List (List A)) → 0 < length xs → finishing (numbered xs) ≡ xs
-finishing_numbered [] h = absurd (omega arith)
-finishing_numbered (x ∷ xs) h =
-    let r = split_last x xs in
-    ap (λ (l : List (List _)). finishing (numbered l)) r.2 ∙ ap finishing (numbered_finishing (r.1 ∷ r.0)) ∙ sym r.2
+finishing_numbered {A} xs h = go (eq-nil-or-concat xs)
+  where
+    go : (xs ≡ []) ⊎ ((ys : List (List A)) × (y : List A) × (xs ≡ concat ys y)) → finishing (numbered xs) ≡ xs
+    go (inl e) = absurd (omega (arith, ap length e))
+    go (inr r) =
+        let e : xs ≡ r.0 ++ (r.1 ∷ []) = r.2 ∙ concat-eq-append r.0 r.1 in
+        ap (λ (l : List (List A)). finishing (numbered l)) e ∙ ap finishing (numbered_finishing (r.1 ∷ r.0)) ∙ sym e
 
 module _ {F w : List ℕ} (h : Lowered F w) where
   abbrev es : List (List Entry)
@@ -99,7 +95,7 @@ module _ {F w : List ℕ} (h : Lowered F w) where
 
   count_is : count_of w ≡ length es
   unfolding count_of entries_in
-  count_is = sym (cut_length w 0 (trimmed (ends_in limits01 w))) ∙ ap length entries_are
+  count_is = sym (length_cut w 0 (trimmed (ends_in limits01 w))) ∙ ap length entries_are
 
   pub few_lists : count_of w ≤ 1024
   few_lists = omega (arith, count_is, h.holds.fits.lists_fit)

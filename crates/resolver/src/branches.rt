@@ -26,6 +26,7 @@ fn in_reach(after: ByteOffset, target: ByteOffset) -> bool
     (a <= t + 32768) & (t <= a + 32767)
 }
 
+// Of the numbers that entries of the lent slice have as codes, only two are asked for.
 fn is_branch_code(code: u32) -> bool
     ensures { result ≡ is_branch code }
 {

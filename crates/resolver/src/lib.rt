@@ -15,14 +15,16 @@ use crate::lists::Lists;
 use crate::passes::Tables;
 use refusal::Refusal;
 
-// The bytes of each body, by list number, and the offset of each branch, by its entry; and the bytes of the top list's body.
-pub fn resolve(lists: &Lists, tables: &mut Tables) -> Result<u32, Refusal>
-    ensures { (h : Lowered lists.now.script.bytes.now lists.now.list.now) →
-        Resolves lists.now.script.bytes.now lists.now.list.now h.lists tables.new.sizes tables.new.offsets result }
-{
-    if !lists.clear_lists() {
-        return Err(Refusal::ZeroByte);
+impl Lists<'_> {
+    // The bytes of each body, by list number, and the offset of each branch, by its entry; and the bytes of the top list's body.
+    pub fn resolve(&self, tables: &mut Tables) -> Result<u32, Refusal>
+        ensures { (h : Lowered self.now.script.bytes.now self.now.list.now) →
+            Resolves self.now.script.bytes.now self.now.list.now h.lists tables.new.sizes tables.new.offsets result }
+    {
+        if !self.clear_lists() {
+            return Err(Refusal::ZeroByte);
+        }
+        self.measure_lists(tables)?;
+        Ok(tables.sizes[0])
     }
-    lists.measure_lists(tables)?;
-    Ok(tables.sizes[0])
 }

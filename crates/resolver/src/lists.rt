@@ -24,7 +24,8 @@ pub struct Lists<'a> {
     pub ghost stands: { Stands script.bytes.now list.now } by { Prim.hlevel (props, operand_prop, all_fine_prop, truth_prop) },
 }
 
-// How many lists there are: the last end that is not 0 is the top list's.
+// How many lists there are: the last end that is not 0 is the top list's. A slice with no end has 0 lists, which is their number. The slice is lent by
+// its address and length, so that no type says how long it is.
 pub fn count_lists(list: &[u32]) -> usize
     requires { 16384 ≤ length list.now }
     ensures { result ≡ count_of list.now }
@@ -53,7 +54,7 @@ impl<'a> Lists<'a> {
         }
     }
 
-    // The entry after the list at this place.
+    // The entry after the list at this place. The place is a method's one argument: the loops over all lists count it, and nothing goes with it.
     pub fn end(&self, j: usize) -> usize
         requires { j < 1024 }
         ensures { result ≡ end_of self.now.list.now j }
@@ -61,7 +62,7 @@ impl<'a> Lists<'a> {
         self.list[ENDS_AT + j] as usize
     }
 
-    // The list's last entry, which stands first.
+    // The list's last entry, which stands first. The strings of a script file begin likewise, but in another table with another rule for its ends.
     pub fn start(&self, j: usize) -> usize
         requires { j < 1024 }
         ensures { result ≡ start_of self.now.list.now j }

@@ -42,15 +42,15 @@ pub(crate) struct Body {
     pub near: bool,
 }
 
-// The number of the list at place j of the finishing order: the top list, number 0, is the last.
-fn number_at(n: usize, j: usize) -> usize
-    requires { j < 1024 }
-    ensures { result ≡ number_at n j }
-{
-    if j + 1 == n { 0 } else { j + 1 }
-}
-
 impl Lists<'_> {
+    // The number of the list at place j of the finishing order: the top list, number 0, is the last.
+    fn number_at(&self, j: usize) -> usize
+        requires { j < self.now.count }
+        ensures { result ≡ number_at self.now.count j }
+    {
+        if j + 1 == self.count { 0 } else { j + 1 }
+    }
+
     // No string of any list has a zero byte.
     pub(crate) fn clear_lists(&self) -> bool
         ensures { result ≡ clear_lists self.now.script.bytes.now self.now.list.now self.now.count }
@@ -91,7 +91,7 @@ impl Lists<'_> {
             let body = self
                 .measure_list(j, tables, &mut places)
                 .ok_or(Refusal::TooLong)?;
-            tables.sizes[number_at(self.count, j)] = body.bytes;
+            tables.sizes[self.number_at(j)] = body.bytes;
             near = body.near & near;
         }
         if near { Ok(()) } else { Err(Refusal::TooFar) }

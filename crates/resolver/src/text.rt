@@ -9,10 +9,11 @@ ghost use Rattle.resolver.specs.Texts.{Few, with_text, texts_of, param_names, fu
 use crate::lists::Lists;
 use decode::function_of;
 use script_records::part::Part;
-use slice_words::{NO_STRING, POOL_AT, code, entry_at, param_of, text};
+use slice_words::{Entry, NO_STRING, POOL_AT, code, entry_at, param_of, text};
 use tree::Trees;
 
-// Strings in a row: their bytes, each with its zero byte, how many there are, and whether no other byte of them is zero.
+// Strings in a row: their bytes, each with its zero byte, how many there are, and whether no other byte of them is zero. `clear` doesn't make an Option of
+// the numbers: the pass that measures needs them, and isn't told that all strings are clear.
 #[derive(Clone, Copy)]
 pub struct Text {
     pub bytes: usize,
@@ -41,7 +42,8 @@ impl Text {
     }
 }
 
-// The data bytes of an entry, and whether its strings have no zero byte: one pass asks for the one, another for the other.
+// The data bytes of an entry, and whether its strings have no zero byte: one pass asks for the one, another for the other, so that neither stands only
+// with the other.
 #[derive(Clone, Copy)]
 pub struct Data {
     pub bytes: usize,
@@ -68,6 +70,7 @@ impl Data {
         }
     }
 
+    // A constant of the pool, whose place makes it short or long. No From: the number isn't what the data holds, and other numbers make other data.
     fn constant(index: u32) -> Data
         ensures { result ≡ constant_data index }
     {
@@ -76,7 +79,7 @@ impl Data {
 }
 
 // What a header has beside its strings, by its registers: the number of parameters and the body's byte count; from two registers on also their number,
-// the marks and each parameter's register.
+// the marks and each parameter's register. The writer measures parameters alone, to place them; here names, sizes and zero bytes come of one walk.
 fn beside_strings(registers: u8, params: usize) -> usize
     requires { params ≤ 131072 }
     ensures { result ≡ cond (leb registers 1) 4 (7 + params) }
@@ -84,7 +87,8 @@ fn beside_strings(registers: u8, params: usize) -> usize
     if registers <= 1 { 4 } else { 7 + params }
 }
 
-// A later value of a Push has the data of a first one.
+// A later value of a Push has the data of a first one. Codes stay numbers: they come from the lent slice, and each that has no arm below is one of the
+// many actions without data.
 fn kind_of(code: u32) -> u32
     ensures { result ≡ kind_of code }
 {
@@ -108,7 +112,7 @@ impl Lists<'_> {
         t
     }
 
-    // The number of strings, then the strings.
+    // The number of strings, then the strings. `n` counts pool words here, and other things in the methods of other types.
     fn pool_data(&self, n: u32) -> Data
         requires { n ≤ 2048 }
         ensures { result ≡ pool_data (map (text_in self.now.script.bytes.now) (take n (pool_in limits01 self.now.list.now))) }
@@ -140,27 +144,28 @@ impl Lists<'_> {
         }
     }
 
-    fn kind_data(&self, kind: u32, first: u32, second: u32) -> Data
-        requires { Operands self.now.script.bytes.now self.now.list.now kind first second }
-        ensures { result ≡ data_in self.now.script.bytes.now self.now.list.now kind first second }
+    // Only counts: the reader of records takes the same data apart, and has nothing to count.
+    fn kind_data(&self, kind: u32, entry: Entry) -> Data
+        requires { Operands self.now.script.bytes.now self.now.list.now kind entry.first entry.second }
+        ensures { result ≡ data_in self.now.script.bytes.now self.now.list.now kind entry.first entry.second }
     {
         match kind {
             code::GOTO_FRAME => Data::fixed(2),
             code::STORE_REGISTER => Data::fixed(1),
-            code::CONSTANT_POOL => self.pool_data(first),
-            code::GOTO_LABEL => Data::string(text(&self.script, first), 0),
+            code::CONSTANT_POOL => self.pool_data(entry.first),
+            code::GOTO_LABEL => Data::string(text(&self.script, entry.first), 0),
             code::JUMP => Data::fixed(2),
             code::IF => Data::fixed(2),
             code::GOTO_FRAME_2 => Data::fixed(1),
-            code::FUNCTION => self.function_data(second),
-            code::STRING => Data::string(text(&self.script, first), 1),
+            code::FUNCTION => self.function_data(entry.second),
+            code::STRING => Data::string(text(&self.script, entry.first), 1),
             code::NULL => Data::fixed(1),
             code::UNDEFINED => Data::fixed(1),
             code::REGISTER => Data::fixed(2),
             code::BOOLEAN => Data::fixed(2),
             code::FLOAT => Data::fixed(9),
             code::INTEGER => Data::fixed(5),
-            code::CONSTANT => Data::constant(first),
+            code::CONSTANT => Data::constant(entry.first),
             _ => Data::fixed(0),
         }
     }
@@ -171,7 +176,7 @@ impl Lists<'_> {
         ensures { result ≡ entry_data self.now.script.bytes.now self.now.list.now (entry_at self.now.list.now e) }
     {
         let entry = entry_at(self.list, e);
-        self.kind_data(kind_of(entry.code), entry.first, entry.second)
+        self.kind_data(kind_of(entry.code), entry)
     }
 }
 
@@ -181,11 +186,9 @@ fn params_text(params: &Trees) -> Text
     ensures few { Few result }
 {
     let mut t = Text::NONE;
-    let mut left = *params;
-    while !left.is_empty() {
-        let node = left.node();
-        t = t.with(text(&left.script, param_of(node.root).name));
-        left = node.before;
+    for tree in *params {
+        let param = param_of(tree.node().root);
+        t = t.with(text(&tree.script, param.name));
     }
     t
 }

@@ -8,9 +8,9 @@ ghost use Rattle.resolver.specs.Steps.{Standing, frame, stepped, Room, bodies, s
 
 use crate::lists::Lists;
 use pcode::{Label, Position};
-use slice_words::{code, entry_at};
+use slice_words::{Entry, code, entry_at};
 
-// The most bytes of a record's data, of a record, and of a body.
+// The most bytes of a record's data, of a record, and of a body: bounds of what 16 bits count, and lengths of no table.
 const MOST_DATA: usize = 65535;
 
 const MOST_RECORD: u32 = 65538;
@@ -25,6 +25,7 @@ pub struct Walk {
     pub last: u32,
 }
 
+// Codes stay numbers, as the lent slice has them: this and `actions_added` ask for their order, and `with` for both.
 fn frame(code: u32) -> u32
     ensures { result ≡ frame code }
 {
@@ -62,20 +63,22 @@ impl Walk {
     }
 }
 
-// A table's word, and 0 past its end.
+// A table's word, and 0 past its end, which its slice has with it.
 pub fn word_of(table: &[u32], i: u32) -> u32
     ensures { result ≡ get_or table.now i 0 }
 {
     table.get(i as usize).copied().unwrap_or(0)
 }
 
-// How many actions an entry adds to its list: a mark adds none, and a later value joins the Push before it.
+// How many actions an entry adds to its list: a mark adds none, and a later value joins the Push before it. The builder's function also asks for the entry
+// before: in an accepted list, as here, a later value has a value before it.
 pub fn actions_added(code: u32) -> u32
     ensures { result ≡ adds code }
 {
     u32::from(code != code::MARK && code < code::LATER_VALUE)
 }
 
+// The builder's function writes the position plus 1 into the slice, and keeps the first mark; this table is the writer's own, and the last mark counts.
 fn set_place(places: &mut [u32; 1024], l: Label, p: Position)
     ensures { places.new ≡ placed places.old l.0 p.0 }
 {
@@ -84,28 +87,34 @@ fn set_place(places: &mut [u32; 1024], l: Label, p: Position)
     }
 }
 
-impl Lists<'_> {
-    // The bytes of the body that an entry brings.
-    #[tactic(auto, unfolding(list_slice::specs::Words::entry_at))]
-    fn body_of(&self, e: usize, sizes: &[u32; 1024]) -> u32
-        requires { e < 4096 }
-        ensures { result ≡ cond (eqb (entry_at self.now.list.now e).code 256) (get_or sizes.now (entry_at self.now.list.now e).first 0) 0 }
-    {
-        let entry = entry_at(self.list, e);
-        if entry.code == code::FUNCTION {
-            word_of(sizes, entry.first)
-        } else {
-            0
-        }
+// The label that an entry marks, if it is a mark: the two parts of the builder's function, over a table of its own.
+fn mark_entry(entry: Entry, p: Position, places: &mut [u32; 1024])
+    ensures { places.new ≡ cond (eqb entry.code 257) (placed places.old entry.first p.0) places.old }
+{
+    if entry.code == code::MARK {
+        set_place(places, Label(entry.first), p);
     }
+}
 
+// The bytes of the body that an entry brings.
+fn body_of(entry: Entry, sizes: &[u32; 1024]) -> u32
+    ensures { result ≡ cond (eqb entry.code 256) (get_or sizes.now entry.first 0) 0 }
+{
+    if entry.code == code::FUNCTION {
+        word_of(sizes, entry.first)
+    } else {
+        0
+    }
+}
+
+impl Lists<'_> {
     fn walk_entry(&self, e: usize, sizes: &[u32; 1024], k: Walk) -> Option<Walk>
         requires known { Known self.now.script.bytes.now self.now.list.now e }
         requires room { Room k }
         ensures { result ≡ stepped_at self.now.script.bytes.now self.now.list.now sizes.now k e }
     {
         let entry = entry_at(self.list, e);
-        k.with(entry.code, self.entry_data(e).bytes, self.body_of(e, sizes))
+        k.with(entry.code, self.entry_data(e).bytes, body_of(entry, sizes))
     }
 
     // The records of a list and where each begins: none if one is too long.
@@ -141,18 +150,6 @@ impl Lists<'_> {
         clear
     }
 
-    // The label that entry e marks, if it is a mark.
-    #[tactic(auto, unfolding(list_slice::specs::Words::entry_at))]
-    fn mark_entry(&self, e: usize, p: Position, places: &mut [u32; 1024])
-        requires { e < 4096 }
-        ensures { places.new ≡ marked_at self.now.list.now places.old e p.0 }
-    {
-        let entry = entry_at(self.list, e);
-        if entry.code == code::MARK {
-            set_place(places, Label(entry.first), p);
-        }
-    }
-
     // The positions of the labels that a list marks.
     pub(crate) fn mark_list(&self, j: usize, places: &mut [u32; 1024])
         requires { j < self.now.count }
@@ -161,8 +158,9 @@ impl Lists<'_> {
     {
         let mut position = 0;
         for e in (self.start(j)..self.end(j)).rev() {
-            self.mark_entry(e, Position(position), places);
-            position += actions_added(entry_at(self.list, e).code);
+            let entry = entry_at(self.list, e);
+            mark_entry(entry, Position(position), places);
+            position += actions_added(entry.code);
         }
     }
 }

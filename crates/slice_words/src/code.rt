@@ -39,3 +39,10 @@ pub const INTEGER: u32 = 0x117;
 pub const CONSTANT: u32 = 0x118;
 
 pub const LATER_VALUE: u32 = 0x120;
+
+// Of records alone: a Push stands for the entries of its values, and the two others for FUNCTION.
+pub const PUSH: u32 = 0x96;
+
+pub const DEFINE_FUNCTION: u32 = 0x9b;
+
+pub const DEFINE_FUNCTION_2: u32 = 0x8e;
