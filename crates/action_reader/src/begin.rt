@@ -5,9 +5,9 @@ ghost use Rattle.action_reader.specs.State.{fresh_walk};
 ghost use Rattle.action_reader.specs.View.{Stands};
 ghost use Rattle.action_reader.specs.Walked.{OrRefused};
 
-use crate::walk::MAX_ENTRIES;
 use builder::entries::put;
-use record_reader::{Kind, codes, head_at};
+use record_reader::{Kind, head_at};
+use slice_words::{MAX_ENTRIES, code};
 
 // The byte after the pool's record, and how many strings it has.
 pub fn begin(bytes: &[u8], list: &mut [u32]) -> Option<(usize, usize)>
@@ -22,6 +22,6 @@ pub fn begin(bytes: &[u8], list: &mut [u32]) -> Option<(usize, usize)>
     let Kind::Pool { strings } = h.kind else {
         return None;
     };
-    put(list, MAX_ENTRIES - 1, u32::from(codes::CONSTANT_POOL), 0, 0);
+    put(list, MAX_ENTRIES - 1, code::CONSTANT_POOL, 0, 0);
     Some((h.next, strings))
 }

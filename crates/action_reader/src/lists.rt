@@ -7,12 +7,7 @@ ghost use Rattle.action_reader.specs.Lists.{Ready, Given, SettledAs, EndedAs, Cl
 use crate::places::place_of;
 use crate::walk::Walk;
 use builder::entries::put;
-
-// Where the table of the lists' ends begins.
-const LIST_ENDS: usize = 13312;
-
-// The code of a function's entry.
-const FUNCTION: u32 = 256;
+use slice_words::{ENDS_AT, code};
 
 // Entry `from` moves to `to`, with another first word.
 fn move_as(list: &mut [u32], to: usize, from: usize, first: u32)
@@ -21,8 +16,7 @@ fn move_as(list: &mut [u32], to: usize, from: usize, first: u32)
     ensures { list.new ≡ put3 (put3 list.old from 0 0 0) to (get_or list.old (from * 3) 0) first (get_or list.old (from * 3 + 2) 0) }
 {
     let at = from * 3;
-    let code = list[at];
-    let second = list[at + 2];
+    let (code, second) = (list[at], list[at + 2]);
     put(list, from, 0, 0, 0);
     put(list, to, code, first, second);
 }
@@ -52,7 +46,7 @@ impl Walk<'_> {
             EndedAs self.now low xs up ends result list.new }
     {
         let low = self.settle_list(list)?;
-        list[LIST_ENDS + self.lists] = low as u32;
+        list[ENDS_AT + self.lists] = low as u32;
         Some(low)
     }
 
@@ -71,7 +65,7 @@ impl Walk<'_> {
         self.top = self.span.base - 1;
         self.places = self.span.first;
         let position = self.table[self.places - 1];
-        put(list, self.top, FUNCTION, self.lists as u32, position);
+        put(list, self.top, code::FUNCTION, self.lists as u32, position);
         self.depth -= 1;
         self.span = self.outer[self.depth];
         Some(())

@@ -2,11 +2,7 @@
 ghost use Rattle.std.specs.Prelude.{◌≡◌, ◌≤◌, length};
 ghost use Rattle.action_reader.specs.Places.{Rises, IsSeek, IsPlace};
 
-use record_reader::codes;
-
-const JUMP: u32 = codes::JUMP as u32;
-
-const IF: u32 = codes::IF as u32;
+use slice_words::code::{IF, JUMP};
 
 // The place that begins at byte x, in a list that stops at byte `stop`.
 fn seek(positions: &[u32], stop: usize, x: u32) -> Option<u32>

@@ -8,11 +8,7 @@ ghost use Rattle.action_reader.specs.Pushes.{Values, Pushed};
 use crate::walk::Walk;
 use builder::entries::put;
 use record_reader::values::value;
-
-// The codes of a Push's first value and of its others, but for the value's type.
-const FIRST_VALUE: u32 = 0x110;
-
-const LATER_VALUE: u32 = 0x120;
+use slice_words::code::{FIRST_VALUE, LATER_VALUE};
 
 // Writes the entries of the values from byte `from` on below entry `above`, and says where the last one stands.
 fn value_entries(b: &[u8], list: &mut [u32], pool: usize, from: usize, above: usize) -> usize

@@ -4,7 +4,8 @@ ghost use Rattle.list_slice.specs.Words.{zeros_of};
 ghost use Rattle.action_reader.specs.Walked.{OrRefused, Done};
 
 use crate::begin::begin;
-use crate::walk::{MAX_ACTIONS, MAX_ENTRIES, Span, Walk};
+use crate::walk::{MAX_ACTIONS, Span, Walk};
+use slice_words::MAX_ENTRIES;
 
 // `None` if the bytes are not action bytes.
 pub fn read_lists(bytes: &[u8], list: &mut [u32]) -> Option<()>

@@ -5,12 +5,10 @@ ghost use Rattle.action_reader.specs.State.{advanced, single_after, open_after, 
 
 use builder::entries::put;
 
-// The most entries, actions, and pushed values that the list slice has room for.
-pub const MAX_ENTRIES: usize = 4096;
+// The most actions and pushed values of the lists, as counts of what the walk holds.
+pub const MAX_ACTIONS: usize = slice_words::MAX_ACTIONS as usize;
 
-pub const MAX_ACTIONS: usize = 1024;
-
-pub const MAX_VALUES: usize = 2048;
+pub const MAX_VALUES: usize = slice_words::MAX_VALUES as usize;
 
 // Where a list ends in the bytes and among the entries, and where its positions begin in the table.
 #[derive(Clone, Copy)]
