@@ -7,12 +7,13 @@ ghost use Rattle.record_reader.specs.Steps.{taken, pushed_of};
 
 use crate::parts::{byte, flag, long, string, word};
 use crate::{PushedValue, ReadValue};
+use slice_words::value as types;
 
-fn pushed(code: u32, first: usize) -> PushedValue
-    ensures { result ≡ record { code = code; first = first; second = 0; fits = true } }
+fn pushed(kind: u8, first: usize) -> PushedValue
+    ensures { result ≡ record { code = kind; first = first; second = 0; fits = true } }
 {
     PushedValue {
-        code,
+        code: u32::from(kind),
         first,
         second: 0,
         fits: true,
@@ -24,7 +25,7 @@ fn constant(i: usize, pool: usize) -> PushedValue
 {
     PushedValue {
         fits: i < pool,
-        ..pushed(8, i)
+        ..pushed(types::CONSTANT, i)
     }
 }
 
@@ -47,7 +48,7 @@ fn float(d: &[u8]) -> Option<(PushedValue, &[u8])>
     Some((
         PushedValue {
             second,
-            ..pushed(6, low as usize)
+            ..pushed(types::FLOAT, low as usize)
         },
         rest,
     ))
@@ -61,7 +62,7 @@ fn string_value(d: &[u8], at: usize) -> Option<(PushedValue, &[u8])>
     Some((
         PushedValue {
             fits,
-            ..pushed(0, at)
+            ..pushed(types::STRING, at)
         },
         rest,
     ))
@@ -72,27 +73,27 @@ fn typed(kind: u8, d: &[u8], at: usize, pool: usize) -> Option<(PushedValue, &[u
     ensures { taken result ≡ pushed_of at pool (dispatch value_readers kind d.now) }
 {
     match kind {
-        0 => string_value(d, at),
-        2 => Some((pushed(2, 0), d)),
-        3 => Some((pushed(3, 0), d)),
-        4 => {
+        types::STRING => string_value(d, at),
+        types::NULL => Some((pushed(types::NULL, 0), d)),
+        types::UNDEFINED => Some((pushed(types::UNDEFINED, 0), d)),
+        types::REGISTER => {
             let (r, rest) = byte(d)?;
-            Some((pushed(4, usize::from(r)), rest))
+            Some((pushed(types::REGISTER, usize::from(r)), rest))
         }
-        5 => {
+        types::BOOLEAN => {
             let (t, rest) = flag(d)?;
-            Some((pushed(5, usize::from(t)), rest))
+            Some((pushed(types::BOOLEAN, usize::from(t)), rest))
         }
-        6 => float(d),
-        7 => {
+        types::FLOAT => float(d),
+        types::INTEGER => {
             let (n, rest) = long(d)?;
-            Some((pushed(7, n as usize), rest))
+            Some((pushed(types::INTEGER, n as usize), rest))
         }
-        8 => {
+        types::CONSTANT => {
             let (i, rest) = byte(d)?;
             Some((constant(usize::from(i), pool), rest))
         }
-        9 => wide_constant(d, pool),
+        types::LONG_CONSTANT => wide_constant(d, pool),
         _ => None,
     }
 }
