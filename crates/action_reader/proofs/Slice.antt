@@ -8,7 +8,7 @@ use lib.Seq.{set_at, get_or-append-add}
 use Rattle.lowering.specs.Builder.{limits01}
 use Rattle.list_slice.specs.Entry.{Entry, entry}
 use Rattle.list_slice.specs.Words.{zeros_of, area, entry_words, joined, ends_from, slice_words}
-use Rattle.list_slice.proofs.Areas.{zeros_length, length_area, area_is, slice_parts}
+use Rattle.list_slice.proofs.Areas.{zeros_length, area_is, slice_parts}
 use Rattle.list_slice.proofs.Parse.{words_length, words_append}
 use Rattle.builder.specs.Entries.{put3}
 use Rattle.action_reader.specs.Layout.{layout}

@@ -31,11 +31,7 @@ pub fn read_lists(bytes: &[u8], list: &mut [u32]) -> Option<()>
         depth: 0,
         pool,
         table: [0; MAX_ACTIONS],
-        outer: [Span {
-            end: 0,
-            base: 0,
-            first: 0,
-        }; MAX_ACTIONS],
+        outer: [Span::default(); MAX_ACTIONS],
     };
     while !walk.is_over() {
         walk.step(list)?;

@@ -11,7 +11,7 @@ pub const MAX_ACTIONS: usize = slice_words::MAX_ACTIONS as usize;
 pub const MAX_VALUES: usize = slice_words::MAX_VALUES as usize;
 
 // Where a list ends in the bytes and among the entries, and where its positions begin in the table.
-#[derive(Clone, Copy)]
+#[derive(Clone, Copy, Default)]
 pub struct Span {
     pub end: usize,
     pub base: usize,
