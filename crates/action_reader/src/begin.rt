@@ -9,7 +9,7 @@ use builder::entries::put;
 use record_reader::{Kind, head_at};
 use slice_words::{MAX_ENTRIES, code};
 
-// The byte after the pool's record, and how many strings it has.
+// The byte after the pool's record, and how many strings it has. The start of a lowering shares the one `put` with this: it reads no record, and makes another state.
 pub fn begin(bytes: &[u8], list: &mut [u32]) -> Option<(usize, usize)>
     requires in_bounds { 16384 ≤ length list.old }
     requires list_value { list.old ≡ zeros_of (length list.old) }

@@ -1,4 +1,5 @@
-// The end of a list: its branches get their places, and it moves down to the finished lists.
+// The end of a list: its branches get their places, and it moves down to the finished lists. That a walk is `Ready` speaks of the slice as well, which is no field, so each step
+// requires it.
 ghost use Rattle.std.specs.Prelude.{◌≡◌, List, ℕ, ◌+◌, ◌*◌, ◌<◌, ◌≤◌, length, get_or, IfSome};
 ghost use Rattle.list_slice.specs.Entry.{Entry};
 ghost use Rattle.builder.specs.Entries.{put3};
@@ -22,7 +23,9 @@ fn move_as(list: &mut [u32], to: usize, from: usize, first: u32)
 }
 
 impl Walk<'_> {
-    // Settles the branches of the present list and moves it to the finished ones. The entry below which it ends, or `None` if a branch leads to no place.
+    // Settles the branches of the present list and moves it to the finished ones. The entry below which it ends, or `None` if a branch leads to no place. The builder moves a list as
+    // it stands; here each entry gets its first word as it moves, and moving afterwards would go over the entries twice. An entry is three words of the caller's slice, and where one
+    // moves to may overlap the next, so no chunks of the slice can be lent for both.
     pub fn settle_list(&self, list: &mut [u32]) -> Option<usize>
         requires { Ready list.old self.now }
         ensures low_bound { IfSome result (λ n. n ≤ 4096) }
@@ -50,7 +53,7 @@ impl Walk<'_> {
         Some(low)
     }
 
-    // A body has ended: its function is an action of the list around it.
+    // A body has ended: its function is an action of the list around it. The builder's end of a function shares the table of ends and the `put` with this, and no field of the state.
     pub fn close(&mut self, list: &mut [u32]) -> Option<()>
         requires ready { Ready list.old self.old }
         requires base_nonzero { 0 < self.old.span.base }

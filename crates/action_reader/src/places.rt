@@ -17,7 +17,8 @@ fn seek(positions: &[u32], stop: usize, x: u32) -> Option<u32>
     }
 }
 
-// The first word of an entry in a list that stops at byte `stop`: a branch's target becomes its place, others stay.
+// The first word of an entry in a list that stops at byte `stop`: a branch's target becomes its place, others stay. The code is a word of the list slice, which programs in other
+// languages read, and so a number.
 pub fn place_of(positions: &[u32], stop: usize, code: u32, first: u32) -> Option<u32>
     requires few { length positions.now ≤ 1024 }
     requires rises { Rises positions.now }

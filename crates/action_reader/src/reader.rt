@@ -7,7 +7,8 @@ use crate::begin::begin;
 use crate::walk::{MAX_ACTIONS, Span, Walk};
 use slice_words::MAX_ENTRIES;
 
-// `None` if the bytes are not action bytes.
+// `None` if the bytes are not action bytes. A step moves on by a record or out of a body, as the state says, so the loop asks the state and has nothing to count. The bytes and the
+// slice are the call's two arguments, lent in different ways: the bytes become a field of the walk here.
 pub fn read_lists(bytes: &[u8], list: &mut [u32]) -> Option<()>
     requires in_bounds { 16384 ≤ length list.old }
     requires list_value { list.old ≡ zeros_of (length list.old) }

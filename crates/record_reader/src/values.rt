@@ -1,4 +1,5 @@
-// Pushed values. But for `value`, each function reads the value after its type, and answers it and the bytes left.
+// Pushed values. But for `value`, each function reads the value after its type, and answers it and the bytes left. A type is a byte as it is read and the end of an entry's code
+// as it is left: an enum would be made from the one number only to give the other.
 ghost use Rattle.std.specs.Prelude.{◌≡◌, ℕ, true, ltb};
 ghost use Rattle.action_format.specs.Readers.{dispatch};
 ghost use Rattle.action_format.specs.Decode.{value_readers};
@@ -54,7 +55,7 @@ fn float(d: &[u8]) -> Option<(PushedValue, &[u8])>
     ))
 }
 
-// A string stands at `at`.
+// A string stands at `at`. It has a place and no index, so it shares nothing with a constant but the reading of a number or a text before.
 fn string_value(d: &[u8], at: usize) -> Option<(PushedValue, &[u8])>
     ensures { (pool : ℕ) → taken result ≡ pushed_of at pool (dispatch value_readers 0 d.now) }
 {
@@ -68,7 +69,8 @@ fn string_value(d: &[u8], at: usize) -> Option<(PushedValue, &[u8])>
     ))
 }
 
-// The value of a type, at `at`: a string, null, undefined, a register, a boolean, a float, an integer, or a constant's index in one byte or two.
+// The value of a type, at `at`: a string, null, undefined, a register, a boolean, a float, an integer, or a constant's index in one byte or two. The types' readers take different
+// arguments, which a table of them could not. What prints a value shares its types alone: it reads words of entries, not bytes.
 fn typed(kind: u8, d: &[u8], at: usize, pool: usize) -> Option<(PushedValue, &[u8])>
     ensures { taken result ≡ pushed_of at pool (dispatch value_readers kind d.now) }
 {
