@@ -24,8 +24,8 @@ fn move_as(list: &mut [u32], to: usize, from: usize, first: u32)
 
 impl Walk<'_> {
     // Settles the branches of the present list and moves it to the finished ones. The entry below which it ends, or `None` if a branch leads to no place. The builder moves a list as
-    // it stands; here each entry gets its first word as it moves, and moving afterwards would go over the entries twice. An entry is three words of the caller's slice, and where one
-    // moves to may overlap the next, so no chunks of the slice can be lent for both.
+    // it stands; here each entry gets its first word as it moves, and moving afterwards would go over the entries twice. An entry is three words of the slice, which programs
+    // in other languages lend.
     pub fn settle_list(&self, list: &mut [u32]) -> Option<usize>
         requires { Ready list.old self.now }
         ensures low_bound { IfSome result (λ n. n ≤ 4096) }
@@ -53,7 +53,7 @@ impl Walk<'_> {
         Some(low)
     }
 
-    // A body has ended: its function is an action of the list around it. The builder's end of a function shares the table of ends and the `put` with this, and no field of the state.
+    // A body has ended: its function is an action of the list around it. The builder's end of a function writes the same two words, and then sets another state.
     pub fn close(&mut self, list: &mut [u32]) -> Option<()>
         requires ready { Ready list.old self.old }
         requires base_nonzero { 0 < self.old.span.base }
