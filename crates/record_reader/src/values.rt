@@ -55,7 +55,8 @@ fn float(d: &[u8]) -> Option<(PushedValue, &[u8])>
     ))
 }
 
-// A string stands at `at`, and its entry keeps that place and whether it is text; a constant's keeps the index that was read. So this and `wide_constant` share no line but the answer's.
+// A string stands at `at`, and its entry keeps that place and whether it is text; a constant's keeps the index that was read.
+// So this and `wide_constant` share no line but the answer's.
 fn string_value(d: &[u8], at: usize) -> Option<(PushedValue, &[u8])>
     ensures { (pool : ℕ) → taken result ≡ pushed_of at pool (dispatch value_readers 0 d.now) }
 {
