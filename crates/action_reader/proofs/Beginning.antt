@@ -1,5 +1,5 @@
 -- The first record: the pool, or no lists.
-use Prim.Native.Nat.{ℕ, zero, suc, ◌+◌, ◌≤◌, ◌<◌}
+use Prim.Native.Nat.{ℕ, zero, suc, ◌+◌, ◌≤◌}
 use mathlib.Core.Path.{◌≡◌, refl, sym, ap, ◌∙◌, subst}
 use mathlib.Core.List.{List, [], ◌∷◌, map}
 use mathlib.Core.Bool.{Bool, true, false, ◌&&◌, true≢false}
@@ -189,9 +189,6 @@ module _ (b : Bytes) (hd : Head) (e : Some hd ≡ head_at b 0 0) where
 abbrev pool_at_lem : List Str → Placed
 pool_at_lem ss = at (plain (ConstantPool ss)) 0
 
-one_at_first : {i : ℕ} → i < 1 → i ≡ 0
-one_at_first h = omega arith
-
 module _ (bs : Bor Bytes) (w : List ℕ) (ss : List Str) (r : Bytes) (q : read_record bs.now ≡ some (alone (simple (ConstantPool ss)), r)) (ra : RecordAt bs.now 0 (alone (simple (ConstantPool ss))) r) (texts : T (all utf8 ss))
     (next : ℕ) (n : next ≡ 0 + length (single_bytes (simple (ConstantPool ss)))) (long : 16384 ≤ length w) (zeros : w ≡ zeros_of (length w)) where
   abbrev b : Bytes
@@ -246,7 +243,7 @@ module _ (bs : Bor Bytes) (w : List ℕ) (ss : List Str) (r : Bytes) (q : read_r
     places = omega arith;
     few = omega arith;
     rising = λ i j a x y. absurd (omega arith);
-    below = λ i a. rw (one_at_first a) (omega (arith, n, ra.later));
+    below = λ i a. let first : i ≡ 0 = omega arith in rw first (omega (arith, n, ra.later));
   }
 
   pub begin_stands : {w' : List ℕ} → w' ≡ put3 w 4095 0x88 0 0 → Stands b w' s

@@ -1,10 +1,7 @@
 -- What `read` answers.
 use Prim.Native.Nat.{ℕ, ◌≤◌, ◌<◌}
 use mathlib.Core.Path.{◌≡◌}
-use mathlib.Core.Logic.{⊎_elim}
-use mathlib.Core.List.{List, [], ◌∷◌}
-use native.Mathlib.Omega.{arith}
-use types.Run.{OneOf}
+use mathlib.Core.List.{List}
 use mathlib.Core.Option.{none}
 use lib.ListN.{length}
 use borrow.Author.Tests.{lt-ltb, le-ltb}
@@ -15,9 +12,6 @@ use Rattle.definition.specs.Left.{Reads}
 use Rattle.action_format.specs.Decode.{decode}
 use Rattle.definition.specs.Outcome.{byte_limits}
 use Rattle.action_reader.specs.Walked.{Done}
-
-pub not_two : OneOf (0 ∷ 1 ∷ 3 ∷ 4 ∷ 5 ∷ []) 2 → ⊥
-not_two h = ⊎_elim (λ e. omega arith) (⊎_elim (λ e. omega arith) (⊎_elim (λ e. omega arith) (⊎_elim (λ e. omega arith) (λ e. omega arith)))) h
 
 pub too_short : (b w : List ℕ) {n : ℕ} → n < 16384 → w ≡ zeros_of n → Reads limits01 b n 13 0 w
 unfolding read_with

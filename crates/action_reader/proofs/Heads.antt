@@ -7,6 +7,8 @@ use mathlib.Core.Option.{Option, none, some}
 use native.Mathlib.Omega.{arith}
 use Rattle.std.proofs.Common.{Some, None}
 use Rattle.std.proofs.lemmas.Option.{same_Some}
+use Rattle.std.proofs.lemmas.Bool.{and_parts, both_ways, false_from_ne_true}
+use Rattle.std.proofs.Math.Bool.{and_assoc}
 use lib.Dec.{T}
 use lib.ListN.{length, drop}
 use Rattle.hir.specs.Hir.{Str}
@@ -60,26 +62,24 @@ untold d p pool e = go (read_record (drop p d)) e
 
 -- a record that breaks a rule makes an action that does
 
-and_no : (a b c d : Bool) → a && (b && (c && d)) ≡ true → (b && c) ≡ true
-and_no true true true d h = refl
-and_no true true false d h = absurd (true≢false (sym h))
-and_no true false c d h = absurd (true≢false (sym h))
-and_no false b c d h = absurd (true≢false (sym h))
-
-falls : (x y : Bool) → (x ≡ true → y ≡ true) → y ≡ false → x ≡ false
-falls true y f h = absurd (true≢false (sym (f refl) ∙ h))
-falls false y f h = refl
+-- The library's `and_parts` is of two tests. This gives the middle two of four.
+middle : (a b c d : Bool) → a && (b && (c && d)) ≡ true → (b && c) ≡ true
+middle a b c d h = (and_parts (b && c) d (and_assoc b c d ∙ (and_parts a (b && (c && d)) h).1)).0
 
 pub breaks : (p pool : ℕ) (x : Record) → record_holds_in pool x ≡ false → holds pool (made p x) ≡ false
 breaks p pool (alone (simple a)) h =
-    falls (holds pool (at (plain a) p)) (plain_fits a && all utf8 (plain_strings a)) (and_no (no_pool (plain a)) (plain_fits a) (all utf8 (plain_strings a)) (all no_zero (plain_strings a))) h
+    false_from_ne_true (holds pool (at (plain a) p))
+    (λ e. both_ways (plain_fits a && all utf8 (plain_strings a)) h (middle (no_pool (plain a)) (plain_fits a) (all utf8 (plain_strings a)) (all no_zero (plain_strings a)) e))
 breaks p pool (alone (pushing vs)) h =
-    falls (holds pool (at (push vs) p)) ((filled vs && all (value_fits pool) vs) && all utf8 (values_strings vs))
-    (and_no true (filled vs && all (value_fits pool) vs) (all utf8 (values_strings vs)) (all no_zero (values_strings vs))) h
+    false_from_ne_true (holds pool (at (push vs) p))
+    (λ e. both_ways ((filled vs && all (value_fits pool) vs) && all utf8 (values_strings vs)) h
+    (middle true (filled vs && all (value_fits pool) vs) (all utf8 (values_strings vs)) (all no_zero (values_strings vs)) e))
 breaks p pool (alone (branching b o)) h = absurd (true≢false h)
 breaks p pool (header x size) h =
-    falls (holds pool (at (define x 0) p)) (header_fits x && all utf8 (header_strings x)) (and_no true (header_fits x) (all utf8 (header_strings x)) (all no_zero (header_strings x))) h
+    false_from_ne_true (holds pool (at (define x 0) p))
+    (λ e. both_ways (header_fits x && all utf8 (header_strings x)) h (middle true (header_fits x) (all utf8 (header_strings x)) (all no_zero (header_strings x)) e))
 
+-- The library's `and_from` is of two equations. This puts the middle two of four tests between the others.
 four : (a b c d : Bool) → T a → T (b && c) → T d → T (a && (b && (c && d)))
 four a b c d p q r = and_both a (b && (c && d)) p (and_both b (c && d) (and_first b c q) (and_both c d (and_second b c q) r))
 

@@ -8,6 +8,7 @@ use mathlib.Core.Option.{Option, none, some}
 use native.Mathlib.Omega.{arith}
 use native.Mathlib.Nat.{add-zero}
 use lib.Dec.{ltb, leb}
+use Rattle.std.proofs.Math.Bool.{and_assoc}
 use lib.ListN.{length, drop, length-append, length-map}
 use borrow.Author.Tests.{eq-eqb, ne_eqb, ltb-true, ltb-false, leb-true, leb-false, le-leb}
 use Rattle.pcode.specs.Pcode.{Branching, Jump, If}
@@ -213,6 +214,7 @@ code_kept ss i (fun h b c) c' e = go (places (sizes b) 0 b) (places ss (suc i) c
           ic d q,
         )
 
+-- The library has the order of two tests and the brackets of three. Four tests change places here: those of the inner list come first.
 four : (o il io rl : Bool) → o && (il && (io && rl)) ≡ (io && il) && (o && rl)
 four true true true rl = refl
 four true true false rl = refl
@@ -222,10 +224,6 @@ four false true true rl = refl
 four false true false rl = refl
 four false false true rl = refl
 four false false false rl = refl
-
-three_tests : (a o l : Bool) → (a && o) && l ≡ a && (o && l)
-three_tests true o l = refl
-three_tests false o l = refl
 
 map_ended : (f : Ended → Ended) (xs : List Ended) (x : Ended) (ys : List Ended) → map f (xs ++ (x ∷ ys)) ≡ map f xs ++ (f x ∷ map f ys)
 map_ended f xs x ys = map_append f xs (x ∷ ys)
@@ -243,7 +241,7 @@ places_law p0 ss fill i n p end d e = refl
 places_law p0 ss fill i n p (act a c) d e =
     let z = position_next ss i (length (single_bytes a)) (sizes c) d in
     let p' : ℕ = p + length (single_bytes a) in
-    rw (three_tests (sure (froms p0 ss) (at (single a) p)) (all (sure (froms p0 ss)) (spread n p' c).own) (all sure_list (spread n p' c).lists))
+    rw (and_assoc (sure (froms p0 ss) (at (single a) p)) (all (sure (froms p0 ss)) (spread n p' c).own) (all sure_list (spread n p' c).lists))
     (both_law act (λ x. x) (spread n p') (spread n p) (single_place ss i a) (places ss (suc i) c) (sure (froms p0 ss) (at (single a) p))
     (all (sure (froms p0 ss)) (spread n p' c).own && all sure_list (spread n p' c).lists) (fixed_single p0 ss fill p a)
     (spread_of (map (fixed (froms p0 ss)) (spread n p' c).own) (map fixed_list (spread n p' c).lists)) _

@@ -6,7 +6,7 @@ use native.Mathlib.Omega.{arith}
 use native.Mathlib.Decide.{dec_lt}
 use native.Mathlib.Numerals.{add-one}
 use lib.ListN.{length, get_or, set, take, drop, length-append, length-map, length-set}
-use lib.Seq.{take-suc-set, get_or-set_same, get_or-set_other, get_or-take, take-take, take-append_seam, drop-append_seam, get_or-append_seam}
+use lib.Seq.{take-suc-set, get_or-set_same, get_or-set_other, get_or-take, take-take, take_at, drop-append_seam, get_or-append_seam}
 use Rattle.std.proofs.lemmas.List.{drop-take}
 use Rattle.list_slice.specs.Read.{Placed}
 use Rattle.list_slice.proofs.Read.{map_append}
@@ -18,11 +18,13 @@ use Rattle.action_reader.specs.Lists.{positions_of}
 use Rattle.action_reader.specs.State.{no_span}
 use Rattle.action_reader.specs.View.{positions, upper, marks, saves, Noted, Kept}
 
+-- The library's `drop-take` with the end of what is taken, in place of its length.
 drop_of_take : (t : List ℕ) (a n : ℕ) → a ≤ n → take (n - a) (drop a t) ≡ drop a (take n t)
 drop_of_take t a n h = sym (drop-take a (n - a) t) ∙ ap (λ (i : ℕ). drop a (take i t)) (omega arith)
 
-take_at : {A : Type 0} (n : ℕ) (xs ys : List A) (t : List A) (m : ℕ) → n ≤ m → take m t ≡ xs ++ ys → length xs ≡ n → take n t ≡ xs
-take_at n xs ys t m h e l = sym (take-take n m t h) ∙ rw e (rw (← l) (take-append_seam xs ys))
+-- The library's `take_at` is of a list that is split at its seam; this is of one whose longer front is.
+take_of_front : {A : Type 0} (n : ℕ) (xs ys : List A) (t : List A) (m : ℕ) → n ≤ m → take m t ≡ xs ++ ys → length xs ≡ n → take n t ≡ xs
+take_of_front n xs ys t m h e l = sym (take-take n m t h) ∙ rw e (take_at xs ys n l)
 
 module _ {s : Walk} {fs : List Open} {own : List Placed} (h : Noted s fs own) where
   -- the positions of the present list
@@ -114,7 +116,7 @@ module _ {s : Walk} {g : Open} {fs : List Open} {own : List Placed} (h : Noted s
       Noted s' fs (g.around ++ (defined g n ∷ []))
   noted_close n s' at-is first_is places-are actions-are same = record {
     long = rw same h.long;
-    table = rw (same, places-are) (take_at s.span.first (marks fs ++ (positions g.around ++ (g.position ∷ []))) (positions own) s.table s.places (omega (arith, h.places)) h.table h.first
+    table = rw (same, places-are) (take_of_front s.span.first (marks fs ++ (positions g.around ++ (g.position ∷ []))) (positions own) s.table s.places (omega (arith, h.places)) h.table h.first
         ∙ ap (λ (z : List ℕ). marks fs ++ z) (sym (map_append (λ (x : Placed). x.position) g.around (defined g n ∷ []))));
     first = sym first_is;
     places = rw (length-append g.around (defined g n ∷ []), places-are, first_is)
@@ -157,6 +159,6 @@ module _ {s : Walk} {g : Open} {fs : List Open} (h : Kept s (g ∷ fs)) where
   pub kept_close : (s' : Walk) → s'.depth ≡ s.depth - 1 → s'.outer ≡ s.outer → Kept s' fs
   kept_close s' e o = record {
     long = rw o h.long;
-    saved = rw (e, o) (take_at (s.depth - 1) (saves fs) (span_of g fs ∷ []) s.outer s.depth (omega arith) h.saved (sym around_is));
+    saved = rw (e, o) (take_of_front (s.depth - 1) (saves fs) (span_of g fs ∷ []) s.outer s.depth (omega arith) h.saved (sym around_is));
     depth = omega (arith, h.depth);
   }

@@ -1,15 +1,14 @@
 -- What a binary search finds is what is sought from the first position on.
-use Prim.Native.Nat.{ℕ, zero, suc, ◌+◌, ◌-◌, ◌<◌, ◌≤◌}
+use Prim.Native.Nat.{ℕ, zero, suc, ◌+◌, ◌<◌, ◌≤◌}
 use mathlib.Core.Path.{◌≡◌, refl, ap, sym, ◌∙◌}
 use mathlib.Core.List.{List, [], ◌∷◌, ◌++◌}
 use mathlib.Core.Option.{Option, none, some, map}
 use native.Mathlib.Omega.{arith}
 use native.Mathlib.Decide.{dec_lt}
-use lib.ListN.{length, get_or, take, drop, length-take, length-drop}
-use lib.Seq.{get_or-take, get_or-drop}
+use lib.ListN.{length, get_or}
 use borrow.Author.Tests.{eq-eqb, ne_eqb}
 use Rattle.action_reader.specs.Walk.{seek}
-use Rattle.action_reader.specs.Places.{Ordered, Rises}
+use Rattle.action_reader.specs.Places.{Rises}
 
 -- what is at index i and nowhere before
 seek_at : (x : ℕ) (xs ys : List ℕ) (i : ℕ) → i < length xs → ((j : ℕ) → j < i → get_or xs j 0 < x) → get_or xs i 0 ≡ x → seek x (xs ++ ys) ≡ some i
@@ -62,10 +61,3 @@ rest_of ps x i h k l e = go (dec_lt k i)
     go : Dec (k < i) → ⊥
     go (yes z) = omega (arith, h.1 k z, e)
     go (no z) = omega (arith, h.2 k (omega arith) l, e)
-
--- a part of what rises
-pub part_rises : (t : List ℕ) (from to : ℕ) → to ≤ length t → Ordered t from to → Rises (take (to - from) (drop from t))
-part_rises t from to l o i j a b c =
-    let n : length (take (to - from) (drop from t)) ≡ to - from = rw (length-take (to - from) (drop from t), length-drop from t) (omega arith) in
-    rw (get_or-take (to - from) (drop from t) i 0 (omega arith), get_or-take (to - from) (drop from t) j 0 (omega arith), get_or-drop from t i 0, get_or-drop from t j 0)
-    (o (from + i) (from + j) (omega arith) (omega arith) (omega arith))

@@ -4,30 +4,24 @@ use mathlib.Core.Path.{◌≡◌, refl, sym, ap, ◌∙◌}
 use mathlib.Core.List.{List, [], ◌∷◌, ◌++◌, append_assoc}
 use native.Mathlib.Omega.{arith}
 use lib.ListN.{length, get_or, set, length-append, replicate-append-replicate}
-use lib.Seq.{set-append_seam, get_or-append-add}
+use lib.Seq.{set_at, get_or-append-add}
 use Rattle.lowering.specs.Builder.{limits01}
 use Rattle.list_slice.specs.Entry.{Entry, entry}
 use Rattle.list_slice.specs.Words.{zeros_of, area, entry_words, joined, ends_from, slice_words}
-use Rattle.list_slice.proofs.Areas.{zeros_length, length_area, area_is, slice_parts}
+use Rattle.list_slice.proofs.Areas.{zeros_length, area_is, slice_parts}
 use Rattle.list_slice.proofs.Parse.{words_length, words_append}
 use Rattle.builder.specs.Entries.{put3}
 use Rattle.action_reader.specs.Layout.{layout}
 
-set_at : (xs ys : List ℕ) (i y v : ℕ) → length xs ≡ i → set (xs ++ (y ∷ ys)) i v ≡ xs ++ (v ∷ ys)
-set_at xs ys i y v e = rw (← e) (set-append_seam xs y ys v)
-
-one_more : (xs : List ℕ) (a : ℕ) (ys : List ℕ) → (xs ++ (a ∷ [])) ++ ys ≡ xs ++ (a ∷ ys)
-one_more xs a ys = append_assoc xs (a ∷ []) ys
-
 put_at : (xs ys : List ℕ) (i a b d c x y : ℕ) → length xs ≡ i * 3 → put3 (xs ++ (a ∷ b ∷ d ∷ ys)) i c x y ≡ xs ++ (c ∷ x ∷ y ∷ ys)
 unfolding put3
 put_at xs ys i a b d c x y e =
-    rw (set_at xs (b ∷ d ∷ ys) (i * 3) a c e)
-    (ap (λ (r : List ℕ). set (set r (i * 3 + 1) x) (i * 3 + 2) y) (sym (one_more xs c (b ∷ d ∷ ys)))
-    ∙ rw (set_at (xs ++ (c ∷ [])) (d ∷ ys) (i * 3 + 1) b x (rw (length-append xs (c ∷ [])) (omega arith)))
-    (ap (λ (r : List ℕ). set r (i * 3 + 2) y) (sym (one_more (xs ++ (c ∷ [])) x (d ∷ ys)))
-    ∙ rw (set_at ((xs ++ (c ∷ [])) ++ (x ∷ [])) ys (i * 3 + 2) d y (rw (length-append (xs ++ (c ∷ [])) (x ∷ []), length-append xs (c ∷ [])) (omega arith)))
-    (one_more (xs ++ (c ∷ [])) x (y ∷ ys) ∙ one_more xs c (x ∷ y ∷ ys))))
+    rw (set_at xs a (b ∷ d ∷ ys) c (i * 3) e)
+    (ap (λ (r : List ℕ). set (set r (i * 3 + 1) x) (i * 3 + 2) y) (sym (append_assoc xs (c ∷ []) (b ∷ d ∷ ys)))
+    ∙ rw (set_at (xs ++ (c ∷ [])) b (d ∷ ys) x (i * 3 + 1) (rw (length-append xs (c ∷ [])) (omega arith)))
+    (ap (λ (r : List ℕ). set r (i * 3 + 2) y) (sym (append_assoc (xs ++ (c ∷ [])) (x ∷ []) (d ∷ ys)))
+    ∙ rw (set_at ((xs ++ (c ∷ [])) ++ (x ∷ [])) d ys y (i * 3 + 2) (rw (length-append (xs ++ (c ∷ [])) (x ∷ []), length-append xs (c ∷ [])) (omega arith)))
+    (append_assoc (xs ++ (c ∷ [])) (x ∷ []) (y ∷ ys) ∙ append_assoc xs (c ∷ []) (x ∷ y ∷ ys))))
 
 pub zeros_join : (m n : ℕ) → zeros_of m ++ zeros_of n ≡ zeros_of (m + n)
 unfolding zeros_of
@@ -153,24 +147,7 @@ module _ (low up : List Entry) (ends : List ℕ) (n v : ℕ) (room : length low 
       ∙ sym (append_assoc front ends (v ∷ (zeros_of left ++ zeros_of (n - 14336)))))
 
   pub ends_more : set (layout low up ends n) (13312 + length ends) v ≡ layout low up (ends ++ (v ∷ [])) n
-  ends_more = rw (at_end, set_at (front ++ ends) (zeros_of left ++ zeros_of (n - 14336)) (13312 + length ends) 0 v front_length) (sym with_end)
-
-pub layout_length : (low up : List Entry) (ends : List ℕ) (n : ℕ) → length low + length up ≤ 4096 → 14336 ≤ n → length (layout low up ends n) ≡ n
-unfolding layout
-layout_length low up ends n room h =
-    rw (
-      length-append (entry_words low) (zeros_of ((4096 - (length low + length up)) * 3) ++ (entry_words up ++ side ends n)),
-      length-append (zeros_of ((4096 - (length low + length up)) * 3)) (entry_words up ++ side ends n),
-      length-append (entry_words up) (side ends n),
-      length-append (zeros_of 1024) (area 1024 ends ++ zeros_of (n - 14336)),
-      length-append (area 1024 ends) (zeros_of (n - 14336)),
-      length_area 1024 ends,
-      words_length low,
-      words_length up,
-      zeros_length ((4096 - (length low + length up)) * 3),
-      zeros_length 1024,
-      zeros_length (n - 14336),
-    ) (omega arith)
+  ends_more = rw (at_end, set_at (front ++ ends) 0 (zeros_of left ++ zeros_of (n - 14336)) v (13312 + length ends) front_length) (sym with_end)
 
 -- nothing read yet
 pub layout_start : (n : ℕ) → 14336 ≤ n → zeros_of n ≡ layout [] [] [] n

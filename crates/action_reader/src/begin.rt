@@ -5,11 +5,11 @@ ghost use Rattle.action_reader.specs.State.{fresh_walk};
 ghost use Rattle.action_reader.specs.View.{Stands};
 ghost use Rattle.action_reader.specs.Walked.{OrRefused};
 
-use crate::walk::MAX_ENTRIES;
 use builder::entries::put;
-use record_reader::{Kind, codes, head_at};
+use record_reader::{Kind, head_at};
+use slice_words::{MAX_ENTRIES, code};
 
-// The byte after the pool's record, and how many strings it has.
+// The byte after the pool's record, and how many strings it has. The start of a lowering shares the one `put` with this: it reads no record, and makes another state.
 pub fn begin(bytes: &[u8], list: &mut [u32]) -> Option<(usize, usize)>
     requires in_bounds { 16384 ≤ length list.old }
     requires list_value { list.old ≡ zeros_of (length list.old) }
@@ -22,6 +22,6 @@ pub fn begin(bytes: &[u8], list: &mut [u32]) -> Option<(usize, usize)>
     let Kind::Pool { strings } = h.kind else {
         return None;
     };
-    put(list, MAX_ENTRIES - 1, u32::from(codes::CONSTANT_POOL), 0, 0);
+    put(list, MAX_ENTRIES - 1, code::CONSTANT_POOL, 0, 0);
     Some((h.next, strings))
 }

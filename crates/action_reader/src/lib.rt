@@ -9,6 +9,7 @@ ghost use Rattle.action_reader.specs.Answers.{length_of};
 
 use crate::reader::read_lists;
 use refusal::Refusal;
+use slice_words::LIST_WORDS;
 use zeros::clear_words;
 
 mod begin;
@@ -20,10 +21,7 @@ mod step;
 mod targets;
 mod walk;
 
-// The fewest words that a list slice has. The caller's slice may be longer, so no type of it says so, and what writes it requires it.
-const LIST_WORDS: usize = 16384;
-
-// How many bytes were read.
+// How many bytes were read. The caller's slice may be longer than a list needs, so no type says that it is long enough, and what writes it requires it.
 pub fn read(bytes: &[u8], list: &mut [u32]) -> Result<usize, Refusal>
     ensures { Reads limits01 bytes.now (length list.old) (refusal_of result) (length_of result) list.new }
 {

@@ -1,4 +1,5 @@
-// The end of a list: its branches get their places, and it moves down to the finished lists.
+// The end of a list: its branches get their places, and it moves down to the finished lists. That a walk is `Ready` speaks of the slice as well, which is no field, so each step
+// requires it.
 ghost use Rattle.std.specs.Prelude.{◌≡◌, List, ℕ, ◌+◌, ◌*◌, ◌<◌, ◌≤◌, length, get_or, IfSome};
 ghost use Rattle.list_slice.specs.Entry.{Entry};
 ghost use Rattle.builder.specs.Entries.{put3};
@@ -7,12 +8,7 @@ ghost use Rattle.action_reader.specs.Lists.{Ready, Given, SettledAs, EndedAs, Cl
 use crate::places::place_of;
 use crate::walk::Walk;
 use builder::entries::put;
-
-// Where the table of the lists' ends begins.
-const LIST_ENDS: usize = 13312;
-
-// The code of a function's entry.
-const FUNCTION: u32 = 256;
+use slice_words::{ENDS_AT, code};
 
 // Entry `from` moves to `to`, with another first word.
 fn move_as(list: &mut [u32], to: usize, from: usize, first: u32)
@@ -21,14 +17,15 @@ fn move_as(list: &mut [u32], to: usize, from: usize, first: u32)
     ensures { list.new ≡ put3 (put3 list.old from 0 0 0) to (get_or list.old (from * 3) 0) first (get_or list.old (from * 3 + 2) 0) }
 {
     let at = from * 3;
-    let code = list[at];
-    let second = list[at + 2];
+    let (code, second) = (list[at], list[at + 2]);
     put(list, from, 0, 0, 0);
     put(list, to, code, first, second);
 }
 
 impl Walk<'_> {
-    // Settles the branches of the present list and moves it to the finished ones. The entry below which it ends, or `None` if a branch leads to no place.
+    // Settles the branches of the present list and moves it to the finished ones. The entry below which it ends, or `None` if a branch leads to no place. The builder moves a list as
+    // it stands; here each entry gets its first word as it moves, and moving afterwards would go over the entries twice. An entry is three words of the slice, which programs
+    // in other languages lend.
     pub fn settle_list(&self, list: &mut [u32]) -> Option<usize>
         requires { Ready list.old self.now }
         ensures low_bound { IfSome result (λ n. n ≤ 4096) }
@@ -52,11 +49,11 @@ impl Walk<'_> {
             EndedAs self.now low xs up ends result list.new }
     {
         let low = self.settle_list(list)?;
-        list[LIST_ENDS + self.lists] = low as u32;
+        list[ENDS_AT + self.lists] = low as u32;
         Some(low)
     }
 
-    // A body has ended: its function is an action of the list around it.
+    // A body has ended: its function is an action of the list around it. The builder's end of a function writes the same two words, and then sets another state.
     pub fn close(&mut self, list: &mut [u32]) -> Option<()>
         requires ready { Ready list.old self.old }
         requires base_nonzero { 0 < self.old.span.base }
@@ -71,7 +68,7 @@ impl Walk<'_> {
         self.top = self.span.base - 1;
         self.places = self.span.first;
         let position = self.table[self.places - 1];
-        put(list, self.top, FUNCTION, self.lists as u32, position);
+        put(list, self.top, code::FUNCTION, self.lists as u32, position);
         self.depth -= 1;
         self.span = self.outer[self.depth];
         Some(())

@@ -2,11 +2,7 @@
 ghost use Rattle.std.specs.Prelude.{◌≡◌, ◌≤◌, length};
 ghost use Rattle.action_reader.specs.Places.{Rises, IsSeek, IsPlace};
 
-use record_reader::codes;
-
-const JUMP: u32 = codes::JUMP as u32;
-
-const IF: u32 = codes::IF as u32;
+use slice_words::code::{IF, JUMP};
 
 // The place that begins at byte x, in a list that stops at byte `stop`.
 fn seek(positions: &[u32], stop: usize, x: u32) -> Option<u32>
@@ -21,7 +17,8 @@ fn seek(positions: &[u32], stop: usize, x: u32) -> Option<u32>
     }
 }
 
-// The first word of an entry in a list that stops at byte `stop`: a branch's target becomes its place, others stay.
+// The first word of an entry in a list that stops at byte `stop`: a branch's target becomes its place, others stay. The code is a word of the list slice, which programs in other
+// languages read, and so a number.
 pub fn place_of(positions: &[u32], stop: usize, code: u32, first: u32) -> Option<u32>
     requires few { length positions.now ≤ 1024 }
     requires rises { Rises positions.now }

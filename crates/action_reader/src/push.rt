@@ -8,13 +8,10 @@ ghost use Rattle.action_reader.specs.Pushes.{Values, Pushed};
 use crate::walk::Walk;
 use builder::entries::put;
 use record_reader::values::value;
+use slice_words::code::{FIRST_VALUE, LATER_VALUE};
 
-// The codes of a Push's first value and of its others, but for the value's type.
-const FIRST_VALUE: u32 = 0x110;
-
-const LATER_VALUE: u32 = 0x120;
-
-// Writes the entries of the values from byte `from` on below entry `above`, and says where the last one stands.
+// Writes the entries of the values from byte `from` on below entry `above`, and says where the last one stands. Only a value that is read says where the next one begins, and the
+// entries go down as the bytes go up: an iterator of values would keep `i` and leave `top` and `base` as they are.
 fn value_entries(b: &[u8], list: &mut [u32], pool: usize, from: usize, above: usize) -> usize
     requires in_bounds { 16384 ≤ length list.old }
     requires above_bound { above ≤ 4096 }

@@ -4,9 +4,11 @@ ghost use Rattle.list_slice.specs.Words.{zeros_of};
 ghost use Rattle.action_reader.specs.Walked.{OrRefused, Done};
 
 use crate::begin::begin;
-use crate::walk::{MAX_ACTIONS, MAX_ENTRIES, Span, Walk};
+use crate::walk::{MAX_ACTIONS, Span, Walk};
+use slice_words::MAX_ENTRIES;
 
-// `None` if the bytes are not action bytes.
+// `None` if the bytes are not action bytes. A step moves on by a record or out of a body, as the state says, so the loop asks the state and has nothing to count. The bytes and the
+// slice are the call's two arguments, lent in different ways: the bytes become a field of the walk here.
 pub fn read_lists(bytes: &[u8], list: &mut [u32]) -> Option<()>
     requires in_bounds { 16384 ≤ length list.old }
     requires list_value { list.old ≡ zeros_of (length list.old) }
@@ -30,11 +32,7 @@ pub fn read_lists(bytes: &[u8], list: &mut [u32]) -> Option<()>
         depth: 0,
         pool,
         table: [0; MAX_ACTIONS],
-        outer: [Span {
-            end: 0,
-            base: 0,
-            first: 0,
-        }; MAX_ACTIONS],
+        outer: [Span::default(); MAX_ACTIONS],
     };
     while !walk.is_over() {
         walk.step(list)?;

@@ -1,4 +1,4 @@
-// One step: a record, or the end of a body.
+// One step: a record, or the end of a body. `Stepped` is what each part of a step promises, of the walk and the slice before and after: a type holds no fact of two states.
 ghost use Rattle.std.specs.Prelude.{◌≡◌, false};
 ghost use Rattle.action_reader.specs.State.{is_over};
 ghost use Rattle.action_reader.specs.View.{Stands};

@@ -5,24 +5,22 @@ ghost use Rattle.action_reader.specs.State.{advanced, single_after, open_after, 
 
 use builder::entries::put;
 
-// The most entries, actions, and pushed values that the list slice has room for.
-pub const MAX_ENTRIES: usize = 4096;
+// The most actions and pushed values of the lists, as counts of what the walk holds.
+pub const MAX_ACTIONS: usize = slice_words::MAX_ACTIONS as usize;
 
-pub const MAX_ACTIONS: usize = 1024;
-
-pub const MAX_VALUES: usize = 2048;
+pub const MAX_VALUES: usize = slice_words::MAX_VALUES as usize;
 
 // Where a list ends in the bytes and among the entries, and where its positions begin in the table.
-#[derive(Clone, Copy)]
+#[derive(Clone, Copy, Default)]
 pub struct Span {
     pub end: usize,
     pub base: usize,
     pub first: usize,
 }
 
-// The present list is read from `at` on. Its entries stand from entry `top` on, its positions in the table before `places`. Finished lists stand below
-// entry `low`. `outer` has the spans of the lists around, as many as `depth` says. The list slice is no field, and no ghost field says what its words stand for:
-// after a refusal they stand for nothing.
+// The present list is read from `at` on. Its entries stand from entry `top` on, its positions in the table before `places`. Finished lists stand below entry `low`: the entries are
+// one slice, which the caller lends, so its areas are positions. `outer` has the spans of the lists around, as many as `depth` says. The list slice is no field, and no ghost field says
+// what its words stand for: after a refusal they stand for nothing.
 #[derive(Drop)]
 pub struct Walk<'a> {
     pub bytes: &'a [u8],
@@ -40,6 +38,7 @@ pub struct Walk<'a> {
     pub outer: [Span; MAX_ACTIONS],
 }
 
+// What moves on needs room for one more action (`Roomy`). It is no fact of every walk: one that is full stands, and is refused at the next record.
 impl Walk<'_> {
     // Whether only the top list's end is left: End, as the last byte.
     pub fn is_over(&self) -> bool
@@ -59,7 +58,7 @@ impl Walk<'_> {
         self.places += 1;
     }
 
-    // An action of one entry, whose record ends before `next`.
+    // An action of one entry, whose record ends before `next`. Its code is a word of the list slice, which programs in other languages read, and so a number.
     pub fn single(&mut self, list: &mut [u32], code: u32, first: usize, next: usize)
         requires in_bounds { 16384 ≤ length list.old }
         requires top_nonzero { 0 < self.old.top }

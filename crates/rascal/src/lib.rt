@@ -3,11 +3,13 @@
 // The two calls: a script file is compiled into the list slice and the output, and action bytes are read into the list slice.
 ghost use Rattle.std.specs.Prelude.{◌≤◌, length, IfOk};
 ghost use Rattle.lowering.specs.Builder.{limits01};
-ghost use Rattle.definition.specs.Left.{Compiles, Reads};
+ghost use Rattle.definition.specs.Left.{Compiles};
 ghost use Rattle.resolver.specs.Lowered as resolver;
 ghost use Rattle.refusal.specs.Refusal.{refusal_of};
 ghost use Rattle.action_reader.specs.Answers.{length_of};
 
+// How many bytes were read, or the refusal; the lists stand in the list slice.
+pub use action_reader::read;
 use action_writer::write;
 use as2_codegen::script_to_actions;
 use refusal::Refusal;
@@ -38,11 +40,4 @@ pub fn compile(file: &[u8], list: &mut [u32], output: &mut [u8]) -> Result<usize
             Err(refusal)
         }
     }
-}
-
-// How many bytes were read, or the refusal; the lists stand in the list slice.
-pub fn read(bytes: &[u8], list: &mut [u32]) -> Result<usize, Refusal>
-    ensures { Reads limits01 bytes.now (length list.old) (refusal_of result) (length_of result) list.new }
-{
-    action_reader::read(bytes, list)
 }

@@ -82,6 +82,7 @@ string_ends b i {t} e u =
     let r = string_at b i h.0 z (λ k l. not_zero (get_or b k 0) (h.2 k l)) in
     rw (take_rest b (i + 1), r, add-one i, u)
 
+-- The library says what a place found by `position` is (`position-Some`), and nothing of a search that finds none.
 found_none : (t : Bool) (x : ℕ) → None ≡ cond t (Some x) None → t ≡ false
 found_none true x e = cc
 found_none false x e = refl

@@ -70,6 +70,7 @@ params_hold [] = refl
 params_hold (p ∷ ps) =
     rw (params_hold ps) (and_four (ltb p.register 256) (utf8 p.name) (all (λ (p : Param). ltb p.register 256) ps) (all utf8 (map (λ (p : Param). p.name) ps)))
 
+-- The library has the order of two tests and the brackets of three. Five tests change places here, from the order of the bytes to that of the rules.
 ordered : (a m n rs us : Bool) → (((a && m) && n) && (rs && us)) ≡ ((((a && true) && m) && rs) && (n && us))
 ordered true true true rs us = refl
 ordered true true false true us = refl

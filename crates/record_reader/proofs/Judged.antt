@@ -8,7 +8,7 @@ use Rattle.action_format.specs.Readers.{P, bind, pure, read_many}
 use Rattle.action_format.proofs.Tests.{some_of}
 use Rattle.record_reader.specs.Steps as steps
 use Rattle.record_reader.specs.Steps.{judged, itself, whole}
-use Rattle.record_reader.proofs.Bools.{and_three}
+use Rattle.std.proofs.Math.Bool.{and_assoc}
 
 -- x was read, and the test answers y
 
@@ -60,7 +60,7 @@ module _ {p : P Bool} {b : Bytes} {count : ℕ} where
       where
         go : (o : math.Option (List Bool × Bytes)) → judged (λ t. fits && t) (judged (all itself) (bind o (λ xs. pure (one ∷ xs)))) ≡ judged (λ t. (fits && one) && t) (judged (all itself) o)
         go none = refl
-        go (some x) = rw (and_three fits one (all itself x.0))
+        go (some x) = rw (← and_assoc fits one (all itself x.0))
 
     pub left_fails : i < count → none ≡ p rest → none ≡ judged (all itself) (read_many p count b)
     left_fails h e = let k : count - i ≡ suc (count - (i + 1)) = omega arith in rw (l.is, k, ← e)

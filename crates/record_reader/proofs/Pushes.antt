@@ -20,7 +20,8 @@ use Rattle.record_reader.specs.declared.Kind.TheVariants as kind
 use Rattle.record_reader.specs.declared.ReadValue.{ReadValue}
 use Rattle.record_reader.specs.Heads.{pushed_value, value_of, value_at, value_holds}
 use Rattle.record_reader.specs.Steps.{whole, content_of}
-use Rattle.record_reader.proofs.Bools.{and_three, and_four, all_append, all_snoc}
+use Rattle.std.proofs.Math.Bool.{and_assoc}
+use Rattle.record_reader.proofs.Bools.{and_four, all_append, all_snoc}
 use Rattle.record_reader.proofs.Rests.{rest_of}
 
 -- what was said of a value
@@ -123,4 +124,4 @@ pub values_content : {d : Bytes} {pool next : ℕ} {fits : Bool} {count : ℕ} �
     Some (record { kind = kind.Push count; fits = ltb 0 count && fits }) ≡ content_of p pool (whole (read_push d))
 values_content {d} {pool} {next} {fits} {count} v h p =
     rw (values_end v h, ← v.counted, ← v.tested, some_filled v.before, values_hold pool v.before)
-    (ap (λ (t : Bool). Some (record { kind = kind.Push (length v.before); fits = t })) (and_three (filled v.before) (all (value_fits pool) v.before) (all utf8 (values_strings v.before))))
+    (ap (λ (t : Bool). Some (record { kind = kind.Push (length v.before); fits = t })) (sym (and_assoc (filled v.before) (all (value_fits pool) v.before) (all utf8 (values_strings v.before)))))

@@ -1,6 +1,6 @@
 -- Tables of readers, and the code that decides.
 use Prim.Native.Nat.{ℕ, zero, suc, ◌+◌, ◌-◌, ◌≤◌, ◌<◌}
-use mathlib.Core.Path.{◌≡◌, refl, ap, sym, ◌∙◌, subst}
+use mathlib.Core.Path.{◌≡◌, refl, ap, ◌∙◌, subst}
 use mathlib.Core.List.{List, [], ◌∷◌, ◌++◌, map}
 use mathlib.Core.Bool.{Bool, true, false, not, ◌&&◌}
 use mathlib.Core.Option.{Option, none, some}
@@ -21,7 +21,6 @@ use Rattle.action_format.proofs.Readers.{byte_law}
 use Rattle.record_reader.specs.declared.Kind.TheVariants as kind
 use Rattle.record_reader.specs.Heads.{head_of}
 use Rattle.record_reader.specs.Shape.{find_op, short_ops, is_short, data_table, data_reader}
-use Rattle.record_reader.proofs.Bools.{never_true}
 
 -- readers of the data, each in a record
 
@@ -127,7 +126,7 @@ module _ (c : ℕ) (r : Bytes) (h : c < 256) where
     where
       go : (o : Option Op) → elim o as (λ _. Bool) [ none ↦ false | some x ↦ true ] ≡ false → by_op o (dispatch (map framed data_table) c) r ≡ dispatch (map framed data_table) c r
       go none e = refl
-      go (some x) e = never_true (sym e)
+      go (some x) e = cc
 
   pub short_record : is_short c ≡ true → (p n pool : ℕ) → Some (record { kind = kind.Plain c 0; next = n - length r; fits = true }) ≡ head_of p n pool (read_record (c ∷ r))
   unfolding is_short
@@ -135,7 +134,7 @@ module _ (c : ℕ) (r : Bytes) (h : c < 256) where
     where
       go : (o : Option Op) → find_op short_ops c ≡ o → elim o as (λ _. Bool) [ none ↦ false | some x ↦ true ] ≡ true →
           Some (record { kind = kind.Plain c 0; next = n - length r; fits = true }) ≡ head_of p n pool (by_op o (dispatch (map framed data_table) c) r)
-      go none q e = never_true e
+      go none q e = cc
       go (some x) q e =
           let f = found c (λ (o : Op). ltb (row_of o).code 0x80) short_ops x all_short q in
           rw (lt-leb 0x80 (row_of x).code (ltb→lt (row_of x).code 0x80 f.tested), f.code)

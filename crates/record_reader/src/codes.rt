@@ -1,4 +1,5 @@
-// The codes of the records that have data, and of Call, which has none.
+// The codes of the records that have data, and of Call, which has none. A code is a byte as it is read and the first word of an entry as it is left: an enum of the hundred
+// codes would be made from the one number only to give the other.
 pub const GOTO_FRAME: u8 = 0x81;
 
 pub const STORE_REGISTER: u8 = 0x87;

@@ -1,4 +1,5 @@
-// Functions' records, whose data are all of `d`.
+// Functions' records, whose data are all of `d`. The second kind has two numbers more in the middle, a rule on each, and parameters of another form: one function of both would
+// ask which it reads at three of its steps.
 ghost use Rattle.std.specs.Prelude.{◌≡◌, ℕ};
 ghost use Rattle.action_format.specs.Decode.{read_function, read_function2};
 ghost use Rattle.record_reader.specs.Steps.{whole, content_of};

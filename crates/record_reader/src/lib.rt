@@ -28,7 +28,8 @@ pub enum Kind {
     Function { size: usize },
 }
 
-// A record ends before `next`; `fits` is false if it breaks a rule on lists by itself.
+// A record ends before `next`; `fits` is false if it breaks a rule on lists by itself. It then has a kind and an end all the same, as a value has its words, so an Option in place
+// of the mark would lose what `head_at` and `value` promise.
 #[derive(Clone, Copy)]
 pub struct Head {
     pub kind: Kind,
@@ -36,7 +37,8 @@ pub struct Head {
     pub fits: bool,
 }
 
-// The entry of a pushed value, with the base 0 in its code; `fits` is false if it breaks a rule on lists.
+// The entry of a pushed value, with the base 0 in its code; `fits` is false if it breaks a rule on lists. The code is a word of the list slice, which programs in other languages
+// read, and so a number.
 #[derive(Clone, Copy)]
 pub struct PushedValue {
     pub code: u32,
@@ -45,14 +47,14 @@ pub struct PushedValue {
     pub fits: bool,
 }
 
-// A value ends before `next`.
+// A value ends before `next`. The texts' entries share no field with it: this says where to read on, and holds the value whole.
 #[derive(Clone, Copy)]
 pub struct ReadValue {
     pub value: PushedValue,
     pub next: usize,
 }
 
-// What a record's data say, and whether they keep the rules on lists.
+// What a record's data say, and whether they keep the rules on lists: the kind holds in both cases.
 #[derive(Clone, Copy)]
 struct Content {
     kind: Kind,
@@ -79,7 +81,8 @@ fn is_short(code: u8) -> bool
     )
 }
 
-// The record at `at` with this code and the data `d`; `pool` is the pool's count of strings.
+// The record at `at` with this code and the data `d`; `pool` is the pool's count of strings. The two numbers say different things of it, so no struct holds them. Each arm is one
+// reader of data, by its name: a table of closures would say the same behind a search.
 #[tactic(auto, unfolding(crate::specs::Shape::data_reader))]
 fn with_data(d: &[u8], code: u8, at: usize, pool: usize) -> Option<Content>
     requires { at + 3 < 2 ^ 64 }
@@ -100,7 +103,8 @@ fn with_data(d: &[u8], code: u8, at: usize, pool: usize) -> Option<Content>
     }
 }
 
-// The record that begins at `at` and ends inside the bytes; `pool` is the pool's count of strings.
+// The record that begins at `at` and ends inside the bytes; `pool` is the pool's count of strings. The entry of a string says where it begins in all the bytes, which what is left
+// of them could not tell: so the position stands beside the bytes here and for values.
 pub fn head_at(b: &[u8], at: usize, pool: usize) -> Option<Head>
     ensures { result ≡ head_at b.now at pool }
 {

@@ -1,4 +1,5 @@
-// Records with few data, which are all of `d`.
+// Records with few data, which are all of `d`. Those of fixed data differ in reader, code and what becomes of the number: one function of all would take these three as arguments,
+// and be no shorter.
 ghost use Rattle.std.specs.Prelude.{◌≡◌, ◌+◌, ◌<◌, ◌^◌, ℕ};
 ghost use Rattle.pcode.specs.Pcode.{Branching};
 ghost use Rattle.action_format.specs.Decode.{read_pool, read_branch};
@@ -51,7 +52,7 @@ pub fn play(d: &[u8]) -> Option<Content>
     Some(plain(codes::GOTO_FRAME2, usize::from(p), true))
 }
 
-// The string of a record at `at` stands three bytes further.
+// The string of a record at `at` stands three bytes further. A label's entry has the place of its one string, a pool's the count of its strings: the two share `whole` alone.
 pub fn label(d: &[u8], at: usize) -> Option<Content>
     requires { at + 3 < 2 ^ 64 }
     ensures { (pool : ℕ) → result ≡ content_of at pool (whole (read_label d.now)) }

@@ -1,4 +1,5 @@
-// A Push: as many values as its data are.
+// A Push: as many values as its data are. Only a value that is read says where the next one begins, so a `for` has nothing to go over; an iterator would have to keep `next` too,
+// and say whether it stopped at the end or at bytes that are no value.
 ghost use Rattle.std.specs.Prelude.{◌≡◌, ℕ};
 ghost use Rattle.action_format.specs.Decode.{read_push};
 ghost use Rattle.record_reader.specs.Steps.{whole, content_of};

@@ -1,4 +1,5 @@
-// Pushed values. But for `value`, each function reads the value after its type, and answers it and the bytes left.
+// Pushed values. But for `value`, each function reads the value after its type, and answers it and the bytes left. A type is a byte as it is read and the end of an entry's code
+// as it is left: an enum would be made from the one number only to give the other.
 ghost use Rattle.std.specs.Prelude.{◌≡◌, ℕ, true, ltb};
 ghost use Rattle.action_format.specs.Readers.{dispatch};
 ghost use Rattle.action_format.specs.Decode.{value_readers};
@@ -7,12 +8,13 @@ ghost use Rattle.record_reader.specs.Steps.{taken, pushed_of};
 
 use crate::parts::{byte, flag, long, string, word};
 use crate::{PushedValue, ReadValue};
+use slice_words::value as types;
 
-fn pushed(code: u32, first: usize) -> PushedValue
-    ensures { result ≡ record { code = code; first = first; second = 0; fits = true } }
+fn pushed(kind: u8, first: usize) -> PushedValue
+    ensures { result ≡ record { code = kind; first = first; second = 0; fits = true } }
 {
     PushedValue {
-        code,
+        code: u32::from(kind),
         first,
         second: 0,
         fits: true,
@@ -24,7 +26,7 @@ fn constant(i: usize, pool: usize) -> PushedValue
 {
     PushedValue {
         fits: i < pool,
-        ..pushed(8, i)
+        ..pushed(types::CONSTANT, i)
     }
 }
 
@@ -47,13 +49,14 @@ fn float(d: &[u8]) -> Option<(PushedValue, &[u8])>
     Some((
         PushedValue {
             second,
-            ..pushed(6, low as usize)
+            ..pushed(types::FLOAT, low as usize)
         },
         rest,
     ))
 }
 
-// A string stands at `at`.
+// A string stands at `at`, and its entry keeps that place and whether it is text; a constant's keeps the index that was read.
+// So this and `wide_constant` share no line but the answer's.
 fn string_value(d: &[u8], at: usize) -> Option<(PushedValue, &[u8])>
     ensures { (pool : ℕ) → taken result ≡ pushed_of at pool (dispatch value_readers 0 d.now) }
 {
@@ -61,38 +64,39 @@ fn string_value(d: &[u8], at: usize) -> Option<(PushedValue, &[u8])>
     Some((
         PushedValue {
             fits,
-            ..pushed(0, at)
+            ..pushed(types::STRING, at)
         },
         rest,
     ))
 }
 
-// The value of a type, at `at`: a string, null, undefined, a register, a boolean, a float, an integer, or a constant's index in one byte or two.
+// The value of a type, at `at`: a string, null, undefined, a register, a boolean, a float, an integer, or a constant's index in one byte or two. The types' readers take different
+// arguments, which a table of them could not. What prints a value shares its types alone: it reads words of entries, not bytes.
 fn typed(kind: u8, d: &[u8], at: usize, pool: usize) -> Option<(PushedValue, &[u8])>
     ensures { taken result ≡ pushed_of at pool (dispatch value_readers kind d.now) }
 {
     match kind {
-        0 => string_value(d, at),
-        2 => Some((pushed(2, 0), d)),
-        3 => Some((pushed(3, 0), d)),
-        4 => {
+        types::STRING => string_value(d, at),
+        types::NULL => Some((pushed(types::NULL, 0), d)),
+        types::UNDEFINED => Some((pushed(types::UNDEFINED, 0), d)),
+        types::REGISTER => {
             let (r, rest) = byte(d)?;
-            Some((pushed(4, usize::from(r)), rest))
+            Some((pushed(types::REGISTER, usize::from(r)), rest))
         }
-        5 => {
+        types::BOOLEAN => {
             let (t, rest) = flag(d)?;
-            Some((pushed(5, usize::from(t)), rest))
+            Some((pushed(types::BOOLEAN, usize::from(t)), rest))
         }
-        6 => float(d),
-        7 => {
+        types::FLOAT => float(d),
+        types::INTEGER => {
             let (n, rest) = long(d)?;
-            Some((pushed(7, n as usize), rest))
+            Some((pushed(types::INTEGER, n as usize), rest))
         }
-        8 => {
+        types::CONSTANT => {
             let (i, rest) = byte(d)?;
             Some((constant(usize::from(i), pool), rest))
         }
-        9 => wide_constant(d, pool),
+        types::LONG_CONSTANT => wide_constant(d, pool),
         _ => None,
     }
 }

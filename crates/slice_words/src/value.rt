@@ -1,6 +1,10 @@
 // The types of pushed values. An index from 256 on makes a long constant.
 pub const STRING: u8 = 0;
 
+pub const NULL: u8 = 2;
+
+pub const UNDEFINED: u8 = 3;
+
 pub const REGISTER: u8 = 4;
 
 pub const BOOLEAN: u8 = 5;

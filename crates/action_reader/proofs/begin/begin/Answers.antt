@@ -12,4 +12,4 @@ pub returns-in_default : goal.returns-in_default
 returns-in_default c = begin_other c.args.bytes.now c.in_ok-h.h c.in_ok-h.ensures c.in_default.not-Pool
 
 pub returns : goal.returns
-returns c = begin_pool c.args.bytes c.args.list.now c.in_ok-h.h c.in_ok-h.ensures (not-false _ c.if-not-h.false) c.in-Pool.strings c.in-Pool.is c.requires.in_bounds c.requires.list_value (rw c.from.ensures at c.put.ensures)
+returns c = begin_pool c.args.bytes c.args.list.now c.in_ok-h.h c.in_ok-h.ensures (not-false _ c.if-not-h.false) c.in-Pool.strings c.in-Pool.is c.requires.in_bounds c.requires.list_value c.put.ensures

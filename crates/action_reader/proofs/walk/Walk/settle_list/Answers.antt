@@ -1,4 +1,3 @@
-use Rattle.action_reader.proofs.Seek.{part_rises}
 use Rattle.action_reader.proofs.Settle.{settle_again, settle_lost}
 use Rattle.action_reader.proofs.walk.Walk.settle_list.Goals as goal
 
@@ -7,6 +6,3 @@ returns-in_err-first-clause-settled_as c = λ low xs up ends g. rw c.from_residu
 
 pub loop-top-preserved : goal.loop-top-preserved
 loop-top-preserved c = settle_again c.loop-top.invariant c.requires.cap c.requires.down c.loop-top-test.true c.in_ok-first.ensures c.move_as.ensures c.move_as.auto.list
-
-pub place_of-requires-clause-rises : goal.place_of-requires-clause-rises
-place_of-requires-clause-rises c = part_rises c.args.self.now.table c.args.self.now.span.first c.args.self.now.places c.requires.in_table c.requires.ordered
