@@ -10,7 +10,7 @@ use std::error::Error;
 use std::io::{Read, Write};
 use std::{fmt, io};
 
-// What a line lacks.
+// What a line lacks: it has no bytes, or bytes that are not well written. Both are errors, and neither stands for no value.
 #[derive(Clone, Copy, Debug, PartialEq, Eq)]
 pub enum BadLine {
     NoBytes,
@@ -28,13 +28,14 @@ impl fmt::Display for BadLine {
 
 impl Error for BadLine {}
 
-// A text of so many bytes or more is not answered.
+// A text of so many bytes or more is not answered: a limit of what is read, and no table's length.
 const TEXT_END: usize = 2097152;
 
-// So many bytes stand for a line's.
+// So many bytes are lent for a line's; the slice that is made of them has its own length.
 const ROOM: usize = 1048832;
 
 // A text on its way into `file`: what is left of it, the bytes so far, and where the part to repeat starts.
+// The file is lent, and not a Vec: a Vec's `push` would let every step fail for want of memory, and a new line would have to clear it.
 #[derive(Drop)]
 struct Decoder<'a> {
     rest: &'a [u8],
@@ -47,7 +48,8 @@ struct Decoder<'a> {
 
 // The value of a hex digit.
 fn digit(c: u8) -> Option<u8>
-    ensures { result ≡ hex_value c }
+    ensures value { result ≡ hex_value c }
+    ensures upper_bound { IfSome result (λ d. d < 16) }
 {
     match c {
         b'0'..=b'9' => Some(c - b'0'),
