@@ -23,17 +23,18 @@ pub enum Piece {
 
 // The value that an entry pushes, if its code is that of the first value of a Push.
 fn value_of([code, first, second]: [u32; 3]) -> Option<PushValue> {
-    match code {
-        code::STRING => Some(PushValue::String(first)),
-        code::NULL => Some(PushValue::Null),
-        code::UNDEFINED => Some(PushValue::Undefined),
-        code::REGISTER => Some(PushValue::Register(u8::try_from(first).ok()?)),
-        code::BOOLEAN => Some(PushValue::Boolean(first != 0)),
-        code::FLOAT => Some(PushValue::Float(first, second)),
-        code::INTEGER => Some(PushValue::Integer(first.cast_signed())),
-        code::CONSTANT => Some(PushValue::Constant(first)),
-        _ => None,
-    }
+    let value = match code {
+        code::STRING => PushValue::String(first),
+        code::NULL => PushValue::Null,
+        code::UNDEFINED => PushValue::Undefined,
+        code::REGISTER => PushValue::Register(u8::try_from(first).ok()?),
+        code::BOOLEAN => PushValue::Boolean(first != 0),
+        code::FLOAT => PushValue::Float(first, second),
+        code::INTEGER => PushValue::Integer(first.cast_signed()),
+        code::CONSTANT => PushValue::Constant(first),
+        _ => return None,
+    };
+    Some(value)
 }
 
 impl From<&[u32; 3]> for Piece {

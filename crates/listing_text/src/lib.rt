@@ -79,7 +79,8 @@ impl<S: Source, W: Write> Printer<'_, '_, S, W> {
         }
     }
 
-    // An action with a code of its own, and its operands in declaration order; GotoFrame2's scene bias is 0.
+    // An action with a code of its own, and its operands in declaration order; GotoFrame2's scene bias is 0. No Display: what a string or a pool
+    // prints stands in the source.
     fn put_action(&mut self, action: Action, operand: u32) -> io::Result<()> {
         write!(self.out, " {}", action.name)?;
         match action.operand {
@@ -158,7 +159,7 @@ pub fn put_compiled<W: Write>(list: &[u32], file: &[u8], out: &mut W) -> io::Res
     printer.put_lists()
 }
 
-// The lists that were read from action bytes: branches name places.
+// The lists that were read from action bytes: branches name places. The bytes and the writer are two things that each caller has by itself.
 pub fn put_read<W: Write>(list: &[u32], bytes: &[u8], out: &mut W) -> io::Result<()> {
     let mut printer = Printer {
         lists: Lists::from(list),

@@ -100,7 +100,7 @@ static ACTIONS: [(u32, &str, Option<Operand>); 81] = [
 ];
 
 impl From<u32> for Action {
-    // The action with this code; of another, one without a name.
+    // The action with this code, which is a number as in the list slice that programs in other languages read; of another, one without a name.
     fn from(code: u32) -> Action {
         match ACTIONS.iter().find(|row| row.0 == code) {
             Some((_, name, operand)) => Action {

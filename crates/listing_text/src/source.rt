@@ -17,7 +17,7 @@ pub struct Header<'a> {
     pub registers: Option<Registers>,
 }
 
-// Their count and the marks, which are printed in order: no single one has a meaning here.
+// Their count and the marks, which are printed in order, so that none needs a name.
 #[derive(Clone, Copy)]
 pub struct Registers {
     pub count: u8,
@@ -38,6 +38,8 @@ pub enum Target {
     Place(u32),
 }
 
+// What the script file and the bytes that were read differ in stands here, so that each method is there twice with the same parameters. What has several
+// parts is printed here too: as an iterator it would be one more type, with an impl of its own, for each of the two.
 pub trait Source {
     // The string of a reference.
     fn string(&self, reference: u32) -> &[u8];
@@ -181,6 +183,7 @@ impl<'a> Actions<'a> {
 }
 
 impl Source for Actions<'_> {
+    // One call on what begins at the reference.
     fn string(&self, reference: u32) -> &[u8] {
         self.record(reference).string()
     }

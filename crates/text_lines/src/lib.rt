@@ -35,7 +35,7 @@ const TEXT_END: usize = 2097152;
 const ROOM: usize = 1048832;
 
 // A text on its way into `file`: what is left of it, the bytes so far, and where the part to repeat starts.
-// The file is lent, and not a Vec: a Vec's `push` would let every step fail for want of memory, and a new line would have to clear it.
+// The file is lent, and not a Vec: a Vec's `push` would let every step fail for want of memory.
 #[derive(Drop)]
 struct Decoder<'a> {
     rest: &'a [u8],
@@ -63,7 +63,7 @@ fn pair(high: u8, low: u8) -> Option<u8> {
     Some(digit(high)? * 16 + digit(low)?)
 }
 
-// The index of the first `c`.
+// The index of the first `c`. A text is bytes and no `&str`, since a line's name may have any.
 pub fn find(text: &[u8], c: u8) -> Option<usize>
     ensures { result ≡ position (λ b. b == c) text.now }
 {
@@ -79,7 +79,7 @@ pub fn split_once(text: &[u8], c: u8) -> Option<(&[u8], &[u8])>
     Some((&text[..at], &text[at + 1..]))
 }
 
-// The decimal number that a text starts with, as far as it stays below ten million.
+// The decimal number that a text starts with, as far as it stays below ten million. `parse` would refuse a text that goes on behind its digits.
 fn number(text: &[u8]) -> usize
     ensures { result < 10000000 }
 {
@@ -100,6 +100,7 @@ fn repeat(part: &[u8], to: &mut [u8]) {
     }
 }
 
+// What each of the three steps promises is the one record `ReadsOn`.
 impl<'a> Decoder<'a> {
     ghost use Rattle.std.specs.Prelude.{◌<◌, ◌≡◌, length};
     ghost use Rattle.text_lines.specs.Decoding.{ReadsOn};
@@ -156,6 +157,7 @@ impl<'a> Decoder<'a> {
         }
     }
 
+    // A `while`, as each step takes as many bytes as it needs.
     fn run(&mut self) -> Result<(), BadLine>
         ensures { self.new.file.ghost_name ≡ self.old.file.ghost_name }
     {
