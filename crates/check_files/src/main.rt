@@ -8,7 +8,7 @@ use std::io;
 use std::io::{BufWriter, Write};
 use text_lines::{BadLine, answer_text};
 
-// Document 01's number, 0 for an accepted file.
+// Document 01's number, 0 for an accepted file: a number as `check_of` gives it, since a number is what a line has.
 fn answer(file: &[u8]) -> u32
     ensures { result ≡ check_of file.now }
 {
@@ -18,6 +18,7 @@ fn answer(file: &[u8]) -> u32
     }
 }
 
+// A name is bytes and no text, so it is written as it stands.
 fn put_answer<W: Write>(name: &[u8], file: Result<&[u8], BadLine>, out: &mut W) -> io::Result<()> {
     out.write_all(name)?;
     match file {

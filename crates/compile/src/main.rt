@@ -4,6 +4,7 @@
 // it writes nothing there, and says on standard error which one it is.
 use anyhow::{Context, Result};
 use refusal::Refusal;
+use slice_words::LIST_WORDS;
 use std::alloc::Global;
 use std::env::Env;
 use std::io::{Input, Read, Write};
@@ -55,7 +56,7 @@ fn read_script<R: Env + Files + Input + AllocGlobal>(rt: &R) -> Result<Vec<u8>> 
 
 fn main(rt: HostRuntime) -> Result<()> {
     let file = read_script(&rt)?;
-    let mut list = vec![in rt.alloc(); 0u32; 16384]?;
+    let mut list = vec![in rt.alloc(); 0u32; LIST_WORDS]?;
     let mut output = vec![in rt.alloc(); 0u8; 2097152]?;
     compile_and_write(&rt, &file, &mut list, &mut output, &mut rt.stdout())
 }

@@ -21,7 +21,8 @@ fn put_success<W: Write>(file: &[u8], list: &[u32], bytes: &[u8], out: &mut W) -
     writeln!(out, "bytes {} {}", bytes.len(), Hex(bytes))
 }
 
-// What a script file compiles to, or its refusal.
+// What a script file compiles to, or its refusal. Of each program's answer only the call is the same: this one prints lists and bytes, `read_files` the
+// lists that were read, and `compile` writes the bytes alone.
 fn put_answer<W: Write>(
     file: &[u8],
     list: &mut [u32],

@@ -1,15 +1,7 @@
-// The words of a list slice (docs/LISTS.md).
+// The areas of a list slice (docs/LISTS.md), and what its entries say.
+use crate::names::Action;
 use pcode::PushValue;
-
-// Where its areas begin: entries stand first, three words each.
-const LABELS: usize = 12288;
-
-const LIST_ENDS: usize = 13312;
-
-const POOL: usize = 14336;
-
-// The words that a call needs.
-pub const LIST_WORDS: usize = 16384;
+use slice_words::{ENDS_AT, LABELS_AT, LIST_WORDS, POOL_AT, code};
 
 // The areas of a list slice; of what does not lie in it, none.
 #[derive(Clone, Copy)]
@@ -21,64 +13,69 @@ pub struct Lists<'a> {
 
 // What an entry's three words say.
 #[derive(Clone, Copy)]
-pub enum Entry {
-    Action { code: u32, operand: u32 },
+pub enum Piece {
+    Action { action: Action, operand: u32 },
     Function { list: u32, reference: u32 },
     Mark(u32),
     Push(Option<PushValue>),
     Later(Option<PushValue>),
 }
 
-fn value_of(kind: u32, first: u32, second: u32) -> Option<PushValue> {
-    match kind {
-        0 => Some(PushValue::String(first)),
-        2 => Some(PushValue::Null),
-        3 => Some(PushValue::Undefined),
-        4 => Some(PushValue::Register(u8::try_from(first).ok()?)),
-        5 => Some(PushValue::Boolean(first != 0)),
-        6 => Some(PushValue::Float(first, second)),
-        7 => Some(PushValue::Integer(first.cast_signed())),
-        8 => Some(PushValue::Constant(first)),
-        _ => None,
-    }
+// The value that an entry pushes, if its code is that of the first value of a Push.
+fn value_of([code, first, second]: [u32; 3]) -> Option<PushValue> {
+    let value = match code {
+        code::STRING => PushValue::String(first),
+        code::NULL => PushValue::Null,
+        code::UNDEFINED => PushValue::Undefined,
+        code::REGISTER => PushValue::Register(u8::try_from(first).ok()?),
+        code::BOOLEAN => PushValue::Boolean(first != 0),
+        code::FLOAT => PushValue::Float(first, second),
+        code::INTEGER => PushValue::Integer(first.cast_signed()),
+        code::CONSTANT => PushValue::Constant(first),
+        _ => return None,
+    };
+    Some(value)
 }
 
-impl From<&[u32; 3]> for Entry {
-    fn from(words: &[u32; 3]) -> Entry {
+impl From<&[u32; 3]> for Piece {
+    fn from(words: &[u32; 3]) -> Piece {
         let [code, first, second] = *words;
         match code {
-            0..0x100 => Entry::Action {
-                code,
+            ..code::FUNCTION => Piece::Action {
+                action: Action::from(code),
                 operand: first,
             },
-            0x100 => Entry::Function {
+            code::FUNCTION => Piece::Function {
                 list: first,
                 reference: second,
             },
-            0x101 => Entry::Mark(first),
-            0x120..=0x128 => Entry::Later(value_of(code % 16, first, second)),
-            _ => Entry::Push(value_of(code % 16, first, second)),
+            code::MARK => Piece::Mark(first),
+            ..code::LATER_VALUE => Piece::Push(value_of(*words)),
+            _ => {
+                let first_code = code - (code::LATER_VALUE - code::FIRST_VALUE);
+                Piece::Later(value_of([first_code, first, second]))
+            }
         }
     }
 }
 
-impl Entry {
+impl Piece {
     pub fn is_later(self) -> bool {
-        matches!(self, Entry::Later(_))
+        matches!(self, Piece::Later(_))
     }
 
     // An action begins with this entry.
     pub fn begins(self) -> bool {
-        !matches!(self, Entry::Mark(_) | Entry::Later(_))
+        !matches!(self, Piece::Mark(_) | Piece::Later(_))
     }
 }
 
 impl<'a> From<&'a [u32]> for Lists<'a> {
     fn from(words: &'a [u32]) -> Lists<'a> {
         Lists {
-            entries: words.get(..LABELS).unwrap_or(&[]).as_chunks().0,
-            ends: words.get(LIST_ENDS..POOL).unwrap_or(&[]),
-            pool: words.get(POOL..LIST_WORDS).unwrap_or(&[]),
+            entries: words.get(..LABELS_AT).unwrap_or(&[]).as_chunks().0,
+            ends: words.get(ENDS_AT..POOL_AT).unwrap_or(&[]),
+            pool: words.get(POOL_AT..LIST_WORDS).unwrap_or(&[]),
         }
     }
 }

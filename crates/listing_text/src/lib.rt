@@ -7,13 +7,13 @@ pub mod replay;
 mod source;
 pub mod text;
 
-pub use crate::entries::LIST_WORDS;
-use crate::entries::{Entry, Lists};
-use crate::names::{Operand, action_of};
+use crate::entries::{Lists, Piece};
+use crate::names::{Action, Operand};
 use crate::source::{Actions, Registers, Source};
 use crate::text::Text;
 use pcode::PushValue;
 use script_records::layout::ScriptFile;
+pub use slice_words::LIST_WORDS;
 use std::io::Write;
 use std::{fmt, io};
 
@@ -79,54 +79,52 @@ impl<S: Source, W: Write> Printer<'_, '_, S, W> {
         }
     }
 
-    // An action with a code of its own, and its operands in declaration order; GotoFrame2's scene bias is 0.
-    fn put_action(&mut self, code: u32, operand: u32) -> io::Result<()> {
-        let (name, operands) = action_of(code);
-        write!(self.out, " {name}")?;
-        match operands {
-            Operand::None => Ok(()),
-            Operand::Number => write!(self.out, " {operand}"),
-            Operand::Pool => self.source.put_pool(self.lists.pool, operand, self.out),
-            Operand::String => self.put_string(operand),
-            Operand::Target => self.source.put_target(operand, self.out),
-            Operand::Play => write!(self.out, " 0 {operand}"),
+    // An action with a code of its own, and its operands in declaration order; GotoFrame2's scene bias is 0. No Display: what a string or a pool
+    // prints stands in the source.
+    fn put_action(&mut self, action: Action, operand: u32) -> io::Result<()> {
+        write!(self.out, " {}", action.name)?;
+        match action.operand {
+            None => Ok(()),
+            Some(Operand::Number) => write!(self.out, " {operand}"),
+            Some(Operand::Pool) => self.source.put_pool(self.lists.pool, operand, self.out),
+            Some(Operand::String) => self.put_string(operand),
+            Some(Operand::Target) => write!(self.out, " {}", self.source.target(operand)),
+            Some(Operand::Play) => write!(self.out, " 0 {operand}"),
         }
     }
 
     // A mark, a later value of a Push, or the action that stands at this position.
-    fn put_entry(&mut self, entry: Entry, position: usize) -> io::Result<()> {
-        if entry.begins() {
+    fn put_piece(&mut self, piece: Piece, position: usize) -> io::Result<()> {
+        if piece.begins() {
             write!(self.out, "{position}")?;
         }
-        match entry {
-            Entry::Action { code, operand } => self.put_action(code, operand),
-            Entry::Function { list, reference } => self.put_function(list, reference),
-            Entry::Mark(label) => write!(self.out, "loc{label:04x}:"),
-            Entry::Push(value) => {
+        match piece {
+            Piece::Action { action, operand } => self.put_action(action, operand),
+            Piece::Function { list, reference } => self.put_function(list, reference),
+            Piece::Mark(label) => write!(self.out, "loc{label:04x}:"),
+            Piece::Push(value) => {
                 write!(self.out, " Push")?;
                 self.put_value(value)
             }
-            Entry::Later(value) => self.put_value(value),
+            Piece::Later(value) => self.put_value(value),
         }
     }
 
-    // A list's last entry stands first. A line ends unless a later value of its Push follows.
+    // A list's last entry stands first. Each entry begins a line but the later values of a Push.
     fn put_entries(&mut self, entries: &[[u32; 3]]) -> io::Result<()> {
         let mut position: usize = 0;
-        let mut left = entries;
-        while let [below @ .., words] = left {
-            let entry = Entry::from(words);
-            self.put_entry(entry, position)?;
-            if !below
-                .last()
-                .is_some_and(|next| Entry::from(next).is_later())
-            {
+        for (i, words) in entries.iter().rev().enumerate() {
+            let piece = Piece::from(words);
+            if 0 < i && !piece.is_later() {
                 writeln!(self.out)?;
             }
-            position += usize::from(entry.begins());
-            left = below;
+            self.put_piece(piece, position)?;
+            position += usize::from(piece.begins());
         }
-        Ok(())
+        if entries.is_empty() {
+            return Ok(());
+        }
+        writeln!(self.out)
     }
 
     // The k-th list that finished, with its number.
@@ -134,7 +132,7 @@ impl<S: Source, W: Write> Printer<'_, '_, S, W> {
         let entries = self.lists.entries(k);
         let length = entries
             .iter()
-            .filter(|words| Entry::from(*words).begins())
+            .filter(|words| Piece::from(*words).begins())
             .count();
         writeln!(self.out, "list {number} length {length}")?;
         self.put_entries(entries)
@@ -161,7 +159,7 @@ pub fn put_compiled<W: Write>(list: &[u32], file: &[u8], out: &mut W) -> io::Res
     printer.put_lists()
 }
 
-// The lists that were read from action bytes: branches name places.
+// The lists that were read from action bytes: branches name places. The bytes and the writer are two things that each caller has by itself.
 pub fn put_read<W: Write>(list: &[u32], bytes: &[u8], out: &mut W) -> io::Result<()> {
     let mut printer = Printer {
         lists: Lists::from(list),

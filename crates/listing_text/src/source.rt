@@ -1,10 +1,11 @@
 // What the references of a list slice refer to: strings and functions of a script file, or of the action bytes that were read.
 use crate::text::Text;
-use decode::function_of;
+use decode::{function_of, record_of};
 use script_records::layout::{Row, ScriptFile};
 use script_records::part::Part;
-use std::io;
+use slice_words::param_of;
 use std::io::Write;
+use std::{fmt, io};
 use text_lines::split_once;
 
 const DEFINE_FUNCTION2: u8 = 0x8e;
@@ -16,12 +17,29 @@ pub struct Header<'a> {
     pub registers: Option<Registers>,
 }
 
+// Their count and the marks, which are printed in order, so that none needs a name.
 #[derive(Clone, Copy)]
 pub struct Registers {
     pub count: u8,
     pub marks: [bool; 9],
 }
 
+// A parameter's name, and its register if the function has some.
+#[derive(Clone, Copy)]
+struct Parameter<'a> {
+    name: &'a [u8],
+    register: Option<u32>,
+}
+
+// Where a branch leads: to a label of a compiled list, to a place of one that was read.
+#[derive(Clone, Copy)]
+pub enum Target {
+    Label(u32),
+    Place(u32),
+}
+
+// What the script file and the bytes that were read differ in stands here, so that each method is there twice with the same parameters. What has several
+// parts is printed here too: as an iterator it would be one more type, with an impl of its own, for each of the two.
 pub trait Source {
     // The string of a reference.
     fn string(&self, reference: u32) -> &[u8];
@@ -39,8 +57,8 @@ pub trait Source {
     // The strings of a pool, by its words or by the first operand of its entry.
     fn put_pool<W: Write>(&self, words: &[u32], first: u32, out: &mut W) -> io::Result<()>;
 
-    // Where a branch leads.
-    fn put_target<W: Write>(&self, target: u32, out: &mut W) -> io::Result<()>;
+    // Where a branch with this operand leads.
+    fn target(&self, operand: u32) -> Target;
 }
 
 // Action bytes that were read. A reference is the place of a string or of a record.
@@ -63,11 +81,22 @@ fn registers_of(row: Row) -> Option<Registers> {
     })
 }
 
-fn put_parameter<W: Write>(name: &[u8], register: Option<u32>, out: &mut W) -> io::Result<()> {
-    write!(out, " {}", Text(name))?;
-    match register {
-        Some(register) => write!(out, " {register}"),
-        None => Ok(()),
+impl fmt::Display for Parameter<'_> {
+    fn fmt<W: fmt::Write>(&self, f: &mut fmt::Formatter<W>) -> fmt::Result {
+        write!(f, "{}", Text(self.name))?;
+        match self.register {
+            Some(register) => write!(f, " {register}"),
+            None => Ok(()),
+        }
+    }
+}
+
+impl fmt::Display for Target {
+    fn fmt<W: fmt::Write>(&self, f: &mut fmt::Formatter<W>) -> fmt::Result {
+        match self {
+            Target::Label(label) => write!(f, "loc{label:04x}"),
+            Target::Place(place) => write!(f, "{place}"),
+        }
     }
 }
 
@@ -82,12 +111,8 @@ fn parameter_rows(script: &ScriptFile, reference: usize) -> Part {
 }
 
 impl Source for ScriptFile<'_> {
-    // 0xffff_ffff is the empty string that comes from no string of the file.
     fn string(&self, reference: u32) -> &[u8] {
-        if reference == 0xffff_ffff {
-            return &[];
-        }
-        ScriptFile::string(self, reference as usize)
+        slice_words::text(self, reference)
     }
 
     fn header(&self, reference: u32) -> Header<'_> {
@@ -99,7 +124,6 @@ impl Source for ScriptFile<'_> {
         }
     }
 
-    // A record holds the register plus 1, or 0 for none.
     fn put_parameters<W: Write>(
         &self,
         reference: u32,
@@ -109,9 +133,12 @@ impl Source for ScriptFile<'_> {
         let rows = parameter_rows(self, reference as usize);
         let start = rows.end.checked_sub(rows.n).unwrap_or(rows.end);
         for i in start..rows.end {
-            let row = self.row_at(i);
-            let register = with_registers.then_some(row.b.saturating_sub(1));
-            put_parameter(Source::string(self, row.a), register, out)?;
+            let param = param_of(record_of(self.row_at(i)));
+            let parameter = Parameter {
+                name: Source::string(self, param.name),
+                register: with_registers.then_some(param.register),
+            };
+            write!(out, " {parameter}")?;
         }
         Ok(())
     }
@@ -124,20 +151,16 @@ impl Source for ScriptFile<'_> {
         Ok(())
     }
 
-    fn put_target<W: Write>(&self, target: u32, out: &mut W) -> io::Result<()> {
-        write!(out, " loc{target:04x}")
+    fn target(&self, operand: u32) -> Target {
+        Target::Label(operand)
     }
 }
 
 impl<'a> Record<'a> {
     fn byte(&mut self) -> u8 {
-        match self.0 {
-            [byte, rest @ ..] => {
-                self.0 = rest;
-                *byte
-            }
-            [] => 0,
-        }
+        let (byte, rest) = self.0.split_first().unwrap_or((&0, &[]));
+        self.0 = rest;
+        *byte
     }
 
     // Two bytes, least significant first.
@@ -160,6 +183,7 @@ impl<'a> Actions<'a> {
 }
 
 impl Source for Actions<'_> {
+    // One call on what begins at the reference.
     fn string(&self, reference: u32) -> &[u8] {
         self.record(reference).string()
     }
@@ -202,7 +226,11 @@ impl Source for Actions<'_> {
         }
         for _ in 0..count {
             let register = with_registers.then(|| u32::from(record.byte()));
-            put_parameter(record.string(), register, out)?;
+            let parameter = Parameter {
+                name: record.string(),
+                register,
+            };
+            write!(out, " {parameter}")?;
         }
         Ok(())
     }
@@ -218,7 +246,7 @@ impl Source for Actions<'_> {
         Ok(())
     }
 
-    fn put_target<W: Write>(&self, target: u32, out: &mut W) -> io::Result<()> {
-        write!(out, " {target}")
+    fn target(&self, operand: u32) -> Target {
+        Target::Place(operand)
     }
 }

@@ -30,6 +30,7 @@ impl fmt::Display for Text<'_> {
     }
 }
 
+// One `writeln!` of the number: the Display of a refusal is its sentence.
 pub fn put_refusal<W: Write>(out: &mut W, refusal: Refusal) -> io::Result<()> {
     writeln!(out, "refused {}", refusal.number())
 }

@@ -10,7 +10,7 @@ use std::error::Error;
 use std::io::{Read, Write};
 use std::{fmt, io};
 
-// What a line lacks.
+// What a line lacks: it has no bytes, or bytes that are not well written. Both are errors, and neither stands for no value.
 #[derive(Clone, Copy, Debug, PartialEq, Eq)]
 pub enum BadLine {
     NoBytes,
@@ -28,13 +28,14 @@ impl fmt::Display for BadLine {
 
 impl Error for BadLine {}
 
-// A text of so many bytes or more is not answered.
+// A text of so many bytes or more is not answered: a limit of what is read, and no table's length.
 const TEXT_END: usize = 2097152;
 
-// So many bytes stand for a line's.
+// So many bytes are lent for a line's; the slice that is made of them has its own length.
 const ROOM: usize = 1048832;
 
 // A text on its way into `file`: what is left of it, the bytes so far, and where the part to repeat starts.
+// The file is lent, and not a Vec: a Vec's `push` would let every step fail for want of memory.
 #[derive(Drop)]
 struct Decoder<'a> {
     rest: &'a [u8],
@@ -47,7 +48,8 @@ struct Decoder<'a> {
 
 // The value of a hex digit.
 fn digit(c: u8) -> Option<u8>
-    ensures { result ≡ hex_value c }
+    ensures value { result ≡ hex_value c }
+    ensures upper_bound { IfSome result (λ d. d < 16) }
 {
     match c {
         b'0'..=b'9' => Some(c - b'0'),
@@ -61,7 +63,7 @@ fn pair(high: u8, low: u8) -> Option<u8> {
     Some(digit(high)? * 16 + digit(low)?)
 }
 
-// The index of the first `c`.
+// The index of the first `c`. A text is bytes and no `&str`, since a line's name may have any.
 pub fn find(text: &[u8], c: u8) -> Option<usize>
     ensures { result ≡ position (λ b. b == c) text.now }
 {
@@ -77,7 +79,7 @@ pub fn split_once(text: &[u8], c: u8) -> Option<(&[u8], &[u8])>
     Some((&text[..at], &text[at + 1..]))
 }
 
-// The decimal number that a text starts with, as far as it stays below ten million.
+// The decimal number that a text starts with, as far as it stays below ten million. `parse` would refuse a text that goes on behind its digits.
 fn number(text: &[u8]) -> usize
     ensures { result < 10000000 }
 {
@@ -98,6 +100,7 @@ fn repeat(part: &[u8], to: &mut [u8]) {
     }
 }
 
+// What each of the three steps promises is the one record `ReadsOn`.
 impl<'a> Decoder<'a> {
     ghost use Rattle.std.specs.Prelude.{◌<◌, ◌≡◌, length};
     ghost use Rattle.text_lines.specs.Decoding.{ReadsOn};
@@ -154,6 +157,7 @@ impl<'a> Decoder<'a> {
         }
     }
 
+    // A `while`, as each step takes as many bytes as it needs.
     fn run(&mut self) -> Result<(), BadLine>
         ensures { self.new.file.ghost_name ≡ self.old.file.ghost_name }
     {
