@@ -1,5 +1,5 @@
 -- The rules of one record: what each step of the walks over its children gives.
-use Prim.Native.Nat.{ℕ, zero, suc, ◌+◌, ◌-◌, ◌≤◌, ◌<◌}
+use Prim.Native.Nat.{ℕ, zero, suc, ◌+◌, ◌-◌, ◌≤◌, ◌<◌, min, max}
 use mathlib.Core.Path.{◌≡◌, refl, ap, ◌∙◌}
 use mathlib.Core.List.{List, [], ◌∷◌, ◌++◌, reverse}
 use Rattle.std.proofs.lemmas.List.{reverse-append}
@@ -12,6 +12,7 @@ use lib.Dec.{eqb, ltb, leb, eqb-suc-zero}
 use native.Mathlib.Nat.{zero-add}
 use native.Mathlib.Omega.{arith}
 use borrow.Author.Tests.{le-leb, lt-leb}
+use Rattle.std.proofs.lemmas.Bool.Decides.{nat_tests}
 use Rattle.hir.specs.Tree.{Forest}
 use Rattle.script_records.specs.declared.layout.Row.{Row}
 use Rattle.script_records.specs.declared.part.Part.{Part}
@@ -75,12 +76,16 @@ module _ (rs : List Row) (p : Part) {t : Tree} (e : t ≡ last_tree rs p) (some_
   unfolding last_tree
   tree_parted = rw e (parted_law rs p.end p.n some_left)
 
-  pub parted_not : (t.row.size ≡ 0) ⊎ ((t.row.size ≡ 0 → ⊥) × (p.n < t.row.size)) → parted_part rs p ≡ false
-  parted_not (inl h) = rw (tree_parted, h)
-  parted_not (inr h) = rw (tree_parted, le-leb 1 t.row.size (omega arith), lt-leb t.row.size p.n h.1)
+  -- the children and their record are as many as its size says, where that is at least 1 and no more than the part holds
+  held : t.children.n + 1 ≡ min (max t.row.size 1) p.n
+  unfolding last_tree span_at
+  held = rw e (omega arith)
 
-  pub parted_next : (t.row.size ≡ 0 → ⊥) → t.row.size ≤ p.n → parted_part rs p ≡ parted_part rs t.before
-  parted_next z h = rw (tree_parted, le-leb 1 t.row.size (omega arith), le-leb t.row.size p.n h)
+  pub parted_not : (t.row.size ≡ t.children.n + 1 → ⊥) → parted_part rs p ≡ false
+  parted_not h = rw tree_parted (grind (arith, nat_tests, held))
+
+  pub parted_next : t.row.size ≡ t.children.n + 1 → parted_part rs p ≡ parted_part rs t.before
+  parted_next h = rw (tree_parted, le-leb 1 t.row.size (omega arith), le-leb t.row.size p.n (omega (arith, held)))
 
   pub trees_next : trees (trees_in rs p) ≡ trees (trees_in rs t.before) + 1
   unfolding trees
@@ -106,10 +111,10 @@ module _ (rs : List Row) (whole part : Part) (n : ℕ) (before : Passed rs whole
   pub siblings_counted : part.n ≡ 0 → Some n ≡ siblings_of rs whole
   siblings_counted h = let d = trees_done rs part h in rw (before.sizes, d.0, before.number, d.1, zero-add)
 
-  pub passed_one : {t : Tree} → t ≡ last_tree rs part → 0 < part.n → (t.row.size ≡ 0 → ⊥) → t.row.size ≤ part.n → Passed rs whole t.before (n + 1)
-  passed_one e l z h =
+  pub passed_one : {t : Tree} → t ≡ last_tree rs part → 0 < part.n → t.row.size ≡ t.children.n + 1 → Passed rs whole t.before (n + 1)
+  passed_one e l h =
       record {
-        sizes = before.sizes ∙ parted_next rs part e l z h;
+        sizes = before.sizes ∙ parted_next rs part e l h;
         number = omega (arith, before.number, trees_next rs part e l);
         few = omega (arith, before.few, (tree_less rs part e l).1);
       }

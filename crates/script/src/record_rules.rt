@@ -11,17 +11,52 @@ use script_records::kind::Kind;
 use script_records::layout::{Row, ScriptFile};
 use script_records::part::{Part, Tree};
 
+// The subtrees of a part from the last to the first, in a file of any content.
+#[derive(Clone, Copy)]
+struct Siblings<'a> {
+    script: ScriptFile<'a>,
+    part: Part,
+}
+
+impl Iterator for Siblings<'_> {
+    ghost use Rattle.std.specs.Iterator.{at_most};
+    ghost use Rattle.script.specs.Siblings.{GivesLast};
+
+    type Item = Tree;
+
+    ghost next_gives = { GivesLast };
+
+    ghost remaining = { λ s. at_most s.part.n };
+
+    fn next(&mut self) -> Option<Tree> {
+        if self.part.n == 0 {
+            return None;
+        }
+        let tree = self.script.last_tree(self.part);
+        self.part = tree.before;
+        Some(tree)
+    }
+}
+
+impl<'a> Siblings<'a> {
+    fn new(script: &ScriptFile<'a>, part: Part) -> Siblings<'a>
+        ensures { result ≡ record { script = script.now; part = part } }
+    {
+        Siblings {
+            script: *script,
+            part,
+        }
+    }
+}
+
 // Every subtree of the part is of the class.
 pub fn all_of(script: &ScriptFile, p: Part, class: Class) -> bool
     ensures { result ≡ all_of class (trees_in (rows_of script.now.bytes.now script.now.layout) p) }
 {
-    let mut part = p;
-    while part.n != 0 {
-        let t = script.last_tree(part);
-        if !class.has(t.row.kind) {
+    for tree in Siblings::new(script, p) {
+        if !class.has(tree.row.kind) {
             return false;
         }
-        part = t.before;
     }
     true
 }
@@ -30,16 +65,12 @@ pub fn all_of(script: &ScriptFile, p: Part, class: Class) -> bool
 fn count_siblings(script: &ScriptFile, p: Part) -> Option<usize>
     ensures { result ≡ siblings_of (rows_of script.now.bytes.now script.now.layout) p }
 {
-    let mut part = p;
     let mut count: usize = 0;
-    while part.n != 0 {
-        let t = script.last_tree(part);
-        let size = t.row.size as usize;
-        if size == 0 || part.n < size {
+    for tree in Siblings::new(script, p) {
+        if tree.row.size as usize != tree.children.n + 1 {
             return None;
         }
         count += 1;
-        part = t.before;
     }
     Some(count)
 }
