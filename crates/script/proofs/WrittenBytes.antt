@@ -17,9 +17,10 @@ use Rattle.script_records.specs.Layout.{word_at, end_at, start_at, string_at, st
 use Rattle.script_records.specs.Layout.{has_trailer, areas_touch}
 use Rattle.script.specs.Rules.{}
 use Rattle.script.specs.Write.{word4, bytes_of, text, ends_from, record_words, Bytes, trailer}
-use Rattle.script.proofs.WrittenRows.{At, at_left, at_right, first, second}
+use Rattle.script.proofs.WrittenRows.{At, at_left, at_right}
+use Rattle.std.proofs.lemmas.Bool.{and_parts}
 
--- from byte position p on, n words
+-- from byte position p on, n words; `words_add` is of this definition
 unfoldable pub words_from : List ℕ → ℕ → ℕ → List ℕ
 words_from F p zero = []
 words_from F p (suc n) = word_at F p ∷ words_from F (p + 4) n
@@ -32,7 +33,7 @@ words_add F p (suc a) b =
     let q : p + 4 + 4 * a ≡ p + 4 * suc a = omega arith in
     rw (e, words_add F (p + 4) a b, q)
 
--- a word and its four digits
+-- A word and its four digits to the base 256. The library's lemmas of `to_le_bytes` are of its own definition of the digits; here `rw` needs each equation by itself.
 low : (a r : ℕ) → a < 256 → (a + 256 * r) % 256 ≡ a
 low a r h = omega arith
 
@@ -95,6 +96,7 @@ unfoldable pub Small : List ℕ → Type 0
 Small [] = Unit
 Small (n ∷ ns) = (n < 2 ^ 32) × Small ns
 
+-- of this file's `Small`
 pub small_append : (xs ys : List ℕ) → Small xs → Small ys → Small (xs ++ ys)
 unfolding Small
 small_append [] ys h k = k
@@ -283,15 +285,6 @@ five F t =
     let e16 : t + 12 + 4 ≡ t + 16 = omega arith in
     rw (e8, e12, e16)
 
-found_total : (L d m n : ℕ) → 20 ≤ L → d ≡ 20 * n + 4 * m → d ≤ L - 20 → L ≡ L - 20 - d + 4 * (m + (5 * n + 5))
-found_total L d m n h e k = omega arith
-
-found_records : (t r d m n : ℕ) → r ≡ 20 * n → d ≡ 20 * n + 4 * m → d ≤ t → t - r ≡ t - d + 4 * m
-found_records t r d m n e f k = omega arith
-
-found_trailer : (t d m n : ℕ) → d ≡ 20 * n + 4 * m → d ≤ t → t - d + 4 * m + 4 * (5 * n) ≡ t
-found_trailer t d m n e k = omega arith
-
 module _ (F : List ℕ) where
   abbrev found : Layout
   found = record { records = trailer_at F - record_distance F; ends = trailer_at F - end_distance F; count = record_count F; strings = string_count F }
@@ -303,36 +296,37 @@ module _ (F : List ℕ) where
   -- the rules of the trailer
   module _ (rules : (has_trailer F && areas_touch F) ≡ true) where
     has : has_trailer F ≡ true
-    has = first (has_trailer F) (areas_touch F) rules
+    has = (and_parts (has_trailer F) (areas_touch F) rules).0
 
     touch : areas_touch F ≡ true
-    touch = second (has_trailer F) (areas_touch F) rules
+    touch = (and_parts (has_trailer F) (areas_touch F) rules).1
 
     long : 20 ≤ length F
-    long = leb-true 20 (length F) (first (leb 20 (length F)) _ has)
+    long = leb-true 20 (length F) ((and_parts (leb 20 (length F)) _ has).0)
 
     edition_one : edition F ≡ 1
-    edition_one = eqb-true (edition F) 1 (second (leb 20 (length F)) _ has)
+    edition_one = eqb-true (edition F) 1 ((and_parts (leb 20 (length F)) _ has).1)
 
     abbrev distances : Bool
     distances = eqb (record_distance F) (20 * record_count F) && eqb (end_distance F) (20 * record_count F + 4 * string_count F)
 
     distance_one : record_distance F ≡ 20 * record_count F
-    distance_one = eqb-true (record_distance F) _ (first (eqb (record_distance F) (20 * record_count F)) _ (first distances _ touch))
+    distance_one = eqb-true (record_distance F) _ ((and_parts (eqb (record_distance F) (20 * record_count F)) _ ((and_parts distances _ touch).0)).0)
 
     distance_two : end_distance F ≡ 20 * record_count F + 4 * string_count F
-    distance_two = eqb-true (end_distance F) _ (second (eqb (record_distance F) (20 * record_count F)) _ (first distances _ touch))
+    distance_two = eqb-true (end_distance F) _ ((and_parts (eqb (record_distance F) (20 * record_count F)) _ ((and_parts distances _ touch).0)).1)
 
     room : end_distance F ≤ trailer_at F
-    room = leb-true (end_distance F) (trailer_at F) (second distances _ touch)
+    room = leb-true (end_distance F) (trailer_at F) ((and_parts distances _ touch).1)
 
     pub areas_of : Areas F (layout_of F)
     areas_of =
+        let end : trailer_at F - end_distance F + 4 * string_count F + 4 * (5 * record_count F) ≡ trailer_at F = omega (arith, distance_two, room) in
         rw (found_law long)
         (record {
-          total = found_total (length F) (end_distance F) (string_count F) (record_count F) long distance_two room;
-          records = found_records (trailer_at F) (record_distance F) (end_distance F) (string_count F) (record_count F) distance_one distance_two room;
-          tail = rw (found_trailer (trailer_at F) (end_distance F) (string_count F) (record_count F) distance_two room) (five F (trailer_at F) ∙ rw (distance_one, distance_two, edition_one));
+          total = omega (arith, long, distance_two, room);
+          records = omega (arith, distance_one, distance_two, room);
+          tail = rw end (five F (trailer_at F) ∙ rw (distance_one, distance_two, edition_one));
         })
 
   -- and the other way round

@@ -11,7 +11,7 @@ use script_records::kind::Kind;
 use script_records::layout::{Row, ScriptFile};
 use script_records::part::{Part, Tree};
 
-// The subtrees of a part from the last to the first, in a file of any content.
+// The subtrees of a part from the last to the first, in a file of any content. Those who ask have a file and one of its many parts, so the two come apart.
 #[derive(Clone, Copy)]
 struct Siblings<'a> {
     script: ScriptFile<'a>,
@@ -93,7 +93,8 @@ fn is_sort(script: &ScriptFile, t: Tree, sort: Sort) -> bool
     }
 }
 
-// As many children as sorts, each of its sort.
+// As many children as sorts, each of its sort. Two rows are walked, and both have to end at once, which `zip` does not tell. What is left of the part counts its
+// records: 0 is the end, and no lack of a count.
 fn children_match(script: &ScriptFile, p: Part, sorts: &[Sort]) -> bool
     ensures { result ≡ matches (reverse sorts.now) (trees_in (rows_of script.now.bytes.now script.now.layout) p) }
 {
@@ -129,7 +130,7 @@ fn is_counted(r: Row, count: usize) -> bool
     r.b == 0 && r.c == 0 && count == r.a as usize
 }
 
-// The record's words and children have its kind's form; it has so many children.
+// The record's words and children have its kind's form; it has so many children. Two of the four answers are tests of their own, so a `match` gives them.
 fn form_fits(script: &ScriptFile, r: Row, p: Part, count: usize) -> bool
     requires { count ≡ trees (trees_in (rows_of script.now.bytes.now script.now.layout) p) }
     ensures { result ≡ fits script.now.layout.strings (words_of r) (trees_in (rows_of script.now.bytes.now script.now.layout) p) }
