@@ -6,7 +6,7 @@ use mathlib.Core.Bool.{Bool, true, ◌&&◌}
 use lib.Dec.{eqb, leb}
 use lib.ListN.{length, get_or, take, drop, length-append, length-drop, drop_of_length-le}
 use lib.Seq.{drop-cons, get_or-append-add, get_or-append_seam, drop_at, take-append_seam, take-add, drop-drop, length-take-le}
-use native.Mathlib.Nat.{zero-add, add-zero, div-div-eq-div-mul}
+use native.Mathlib.Nat.{zero-add, add-zero}
 use native.Mathlib.Numerals.{add-one, add-two, add-three, add-four}
 use native.Mathlib.Omega.{arith}
 use borrow.Author.Tests.{le-leb, leb-true, eqb-true, eq-eqb}
@@ -33,32 +33,18 @@ words_add F p (suc a) b =
     let q : p + 4 + 4 * a ≡ p + 4 * suc a = omega arith in
     rw (e, words_add F (p + 4) a b, q)
 
--- A word and its four digits to the base 256. The library's lemmas of `to_le_bytes` are of its own definition of the digits; here `rw` needs each equation by itself.
-low : (a r : ℕ) → a < 256 → (a + 256 * r) % 256 ≡ a
-low a r h = omega arith
-
-rest : (a r : ℕ) → a < 256 → (a + 256 * r) / 256 ≡ r
-rest a r h = omega arith
-
-back : (n : ℕ) → n % 256 + 256 * (n / 256) ≡ n
-back n = omega arith
-
-third : (n : ℕ) → n / 65536 ≡ n / 256 / 256
-third n = sym (div-div-eq-div-mul n 256 256)
-
-fourth : (n : ℕ) → n / 16777216 ≡ n / 256 / 256 / 256
-fourth n = sym (div-div-eq-div-mul n 65536 256) ∙ ap (λ (x : ℕ). x / 256) (third n)
-
+-- a word and its four digits
 digits : (a b c d : ℕ) → a < 256 → b < 256 → c < 256 → d < 256 → word4 (a + 256 * (b + 256 * (c + 256 * d))) ≡ a ∷ b ∷ c ∷ d ∷ []
 digits a b c d p q r s =
-    let e : d % 256 ≡ d = omega arith in
-    rw (third, fourth, rest a (b + 256 * (c + 256 * d)) p, rest b (c + 256 * d) q, rest c d r, low a (b + 256 * (c + 256 * d)) p, low b (c + 256 * d) q, low c d r, e)
+    let n : ℕ = a + 256 * (b + 256 * (c + 256 * d)) in
+    let e0 : n % 256 ≡ a = omega arith in
+    let e1 : n / 256 % 256 ≡ b = omega arith in
+    let e2 : n / 65536 % 256 ≡ c = omega arith in
+    let e3 : n / 16777216 % 256 ≡ d = omega arith in
+    rw (e0, e1, e2, e3)
 
 digits_sum : (n : ℕ) → n < 2 ^ 32 → n % 256 + 256 * (n / 256 % 256 + 256 * (n / 65536 % 256 + 256 * (n / 16777216 % 256))) ≡ n
-digits_sum n h =
-    let top : n / 256 / 256 / 256 < 256 = rw (← fourth n) (omega arith) in
-    let e : n / 256 / 256 / 256 % 256 ≡ n / 256 / 256 / 256 = omega arith in
-    rw (third, fourth, e, back (n / 256 / 256), back (n / 256), back n)
+digits_sum n h = omega arith
 
 four : (F : List ℕ) (p : ℕ) → p + 4 ≤ length F → drop p F ≡ get_or F p 0 ∷ get_or F (p + 1) 0 ∷ get_or F (p + 2) 0 ∷ get_or F (p + 3) 0 ∷ drop (p + 4) F
 four F p h =

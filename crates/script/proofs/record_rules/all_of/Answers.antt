@@ -1,9 +1,6 @@
-use mathlib.Core.Path.{refl, sym, ◌∙◌}
+use mathlib.Core.Path.{sym, ◌∙◌}
 use Rattle.script.proofs.RecordLaws.{all_done, all_not, all_next}
 use Rattle.script.proofs.record_rules.all_of.Goals as goal
-
-pub loop-tree-init : goal.loop-tree-init
-loop-tree-init c = rw (c.into_iter-tree-iterator.ensures.into_iter_gives, c.new-tree-items.ensures) (refl, refl)
 
 pub returns-then-not-has : goal.returns-then-not-has
 returns-then-not-has c =

@@ -1,12 +1,9 @@
 -- `count_siblings` meets its contract.
-use mathlib.Core.Path.{refl, ◌∙◌}
+use mathlib.Core.Path.{◌∙◌}
 use native.Mathlib.Omega.{arith}
 use Rattle.script_records.proofs.Trees.{tree_less}
-use Rattle.script.proofs.RecordLaws.{passed_none, passed_one, siblings_broken, siblings_counted, parted_not}
+use Rattle.script.proofs.RecordLaws.{passed_one, siblings_broken, siblings_counted, parted_not}
 use Rattle.script.proofs.record_rules.count_siblings.Goals as goal
-
-pub loop-tree-init : goal.loop-tree-init
-loop-tree-init c = rw (c.into_iter-tree-iterator.ensures.into_iter_gives, c.new-tree-items.ensures) (refl, passed_none _ _)
 
 pub overflow_add-tree : goal.overflow_add-tree
 overflow_add-tree c =
