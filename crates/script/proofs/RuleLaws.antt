@@ -4,6 +4,7 @@ use mathlib.Core.Path.{◌≡◌, refl, sym, ap, ◌∙◌}
 use mathlib.Core.List.{List, [], ◌∷◌, ◌++◌, reverse}
 use mathlib.Core.Bool.{Bool, true, false, ◌&&◌, and-false}
 use lib.Dec.{ltb}
+use Rattle.std.proofs.lemmas.Bool.Decides.{nat_tests}
 use lib.ListN.{length, length-append}
 use Rattle.std.proofs.lemmas.List.{reverse-append, length-reverse}
 use native.Mathlib.Nat.{add-suc}
@@ -122,14 +123,6 @@ unfolding deepest
 deep_end rs d [] i f h = sym f.same
 deep_end rs d (s ∷ ss) i f h = absurd (omega arith)
 
--- The library has no lemma of this shape: a limit on the greater of two is one on the second, where the first keeps it
-over_max : (k x : ℕ) → k ≤ 128 → ltb 128 (max k x) ≡ ltb 128 x
-over_max k x h = by_test (ltb 128 x) refl
-  where
-    by_test : (b : Bool) → ltb 128 x ≡ b → ltb 128 (max k x) ≡ ltb 128 x
-    by_test true e = let l : 128 < x = ltb-true 128 x e in rw e (lt-ltb 128 (max k x) (omega arith))
-    by_test false e = let l : x ≤ 128 = ltb-false 128 x e in rw e (le-ltb 128 (max k x) (omega arith))
-
 -- the innermost ancestor starts at s, the others at ss
 module _ (rs : List Row) (s : ℕ) (ss : List ℕ) (i : ℕ) where
   -- it has no more records
@@ -138,7 +131,7 @@ module _ (rs : List Row) (s : ℕ) (ss : List ℕ) (i : ℕ) where
   deepest_pop h e =
       let z : i - i ≡ 0 = omega arith in
       let y : length ss + 0 ≡ length ss = omega arith in
-      rw (e, z, forest_none, y) (over_max (length ss) (deepest rs ss i) h)
+      rw (e, z, forest_none, y) (grind (arith, nat_tests))
 
   module _ (below : s ≤ i) (apart : s ≡ i → ⊥) where
     left_some : 0 < i - s
