@@ -11,7 +11,7 @@ use native.Mathlib.Nat.{add-suc}
 use native.Mathlib.Numerals.{add-one}
 use native.Mathlib.Omega.{arith}
 use native.Mathlib.Nat.{sub-zero}
-use borrow.Author.Tests.{ltb-true, ltb-false, eq-eqb, ne_eqb, lt-ltb, le-ltb, le-leb}
+use borrow.Author.Tests.{eq-eqb, ne_eqb, lt-ltb, le-ltb, le-leb}
 use Rattle.hir.specs.Tree.{depth}
 use Rattle.script_records.specs.declared.layout.Layout.{Layout}
 use Rattle.script_records.specs.declared.layout.Row.{Row}
@@ -31,6 +31,7 @@ module _ (t : ℕ → Bool) where
     pub most : i ≤ n
     pub all : all_below t i ≡ true
 
+  -- where each loop begins: the answer of its init goal is this lemma itself
   pub upto_zero : (n : ℕ) → Upto n 0
   unfolding all_below
   upto_zero n = record { most = omega arith; all = refl }
@@ -160,10 +161,6 @@ module _ (rs : List Row) (s : ℕ) (ss : List ℕ) (i : ℕ) where
         let b = span_pos rs i (i - s) left_some in
         (omega arith, (omega arith, o))
 
--- the same of the last two
-turned_twice : (others : List ℕ) (s v : ℕ) → reverse ((others ++ s ∷ []) ++ v ∷ []) ≡ v ∷ s ∷ reverse others
-turned_twice others s v = reverse-append (others ++ s ∷ []) (v ∷ []) ∙ ap (λ (ss : List ℕ). v ∷ ss) (turned others s refl)
-
 -- the innermost ancestor, which starts at s, is taken from the others
 module _ (rs : List Row) (d : ℕ) {starts : List ℕ} (others : List ℕ) (s i : ℕ) (e : starts ≡ others ++ s ∷ []) (f : Deep rs d starts i) where
   count : length others + 1 ≤ 129
@@ -196,8 +193,8 @@ module _ (rs : List Row) (d : ℕ) {starts : List ℕ} (others : List ℕ) (s i 
     unfolding Ordered last_tree
     deep_push h q = rw q (record {
       few = rw (length-append, length-append) (omega (arith, count));
-      ordered = rw (turned_twice others s) (ordered_push rs s (reverse others) i deep_below apart still_open.1);
-      same = same_open ∙ rw (turned_twice others s) (ap (ltb 128) (deepest_push rs s (reverse others) i deep_below apart));
+      ordered = rw (reverse-append (others ++ s ∷ []), turned others s refl) (ordered_push rs s (reverse others) i deep_below apart still_open.1);
+      same = same_open ∙ rw (reverse-append (others ++ s ∷ []), turned others s refl) (ap (ltb 128) (deepest_push rs s (reverse others) i deep_below apart));
     })
 
 -- the rules together

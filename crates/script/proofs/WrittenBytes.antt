@@ -43,9 +43,6 @@ digits a b c d p q r s =
     let e3 : n / 16777216 % 256 ≡ d = omega arith in
     rw (e0, e1, e2, e3)
 
-digits_sum : (n : ℕ) → n < 2 ^ 32 → n % 256 + 256 * (n / 256 % 256 + 256 * (n / 65536 % 256 + 256 * (n / 16777216 % 256))) ≡ n
-digits_sum n h = omega arith
-
 four : (F : List ℕ) (p : ℕ) → p + 4 ≤ length F → drop p F ≡ get_or F p 0 ∷ get_or F (p + 1) 0 ∷ get_or F (p + 2) 0 ∷ get_or F (p + 3) 0 ∷ drop (p + 4) F
 four F p h =
     rw (
@@ -100,7 +97,7 @@ module _ (F : List ℕ) where
   word_at_lem p n h k =
       let f = h.front in
       let r : List ℕ = word4 n ++ h.back in
-      rw (h.whole, ← h.place, get_or-append_seam, get_or-append-add f r 1 0, get_or-append-add f r 2 0, get_or-append-add f r 3 0) (digits_sum n k)
+      rw (h.whole, ← h.place, get_or-append_seam, get_or-append-add f r 1 0, get_or-append-add f r 2 0, get_or-append-add f r 3 0) (omega arith)
 
   pub words_at : (ns : List ℕ) (p : ℕ) → At F p (bytes_of ns) → Small ns → words_from F p (length ns) ≡ ns
   unfolding bytes_of words_from Small

@@ -12,6 +12,7 @@ use script_records::layout::{Row, ScriptFile};
 use script_records::part::{Part, Tree};
 
 // The subtrees of a part from the last to the first, in a file of any content. Those who ask have a file and one of its many parts, so the two come apart.
+// The file is lent, so what is left is a place in it.
 #[derive(Clone, Copy)]
 struct Siblings<'a> {
     script: ScriptFile<'a>,
@@ -28,6 +29,7 @@ impl Iterator for Siblings<'_> {
 
     ghost remaining = { λ s. at_most s.part.n };
 
+    // What is left is a number of records: with none there is no subtree, and nothing to take off.
     fn next(&mut self) -> Option<Tree> {
         if self.part.n == 0 {
             return None;
