@@ -108,9 +108,9 @@ pub enum ConstantKind {
     Register(u8),
 }
 
-// A function's name is the record's word, its index plus 1, or 0 for none: a match on a record asks only whether there is one, by `name != 0`. Its marks are
-// the word's bits 0 to 8, which no match reads: nine flags would be made for each record that is decoded. Who writes a function takes
-// `decode::function_of`, which says the name as an Option and the marks as flags.
+// A function's name is the record's word, its index plus 1, or 0 for none: who matches on a record asks no more than whether it has a name, `operators::Shape` by
+// `name != 0`, and `leaves::leaves_value`, which takes an empty one for none. Its marks are the word's bits 0 to 8, which no match reads: as flags nine would be
+// made for each function that is decoded. Who writes a function takes `decode::function_of`, which says the name as an Option and the marks as flags.
 #[derive(Clone, Copy)]
 pub enum ExprKind {
     Constant(ConstantKind),
@@ -143,7 +143,7 @@ pub enum EnumeratorTarget {
     Register(u8),
 }
 
-// The two forms of a `for` by their names: as an Option a classic one would be the loop with no condition, which it is not.
+// The two forms of a `for` by their names: as an Option a classic one would be None, though it has parts of its own.
 #[derive(Clone, Copy)]
 pub enum ForCondition {
     Enumerate(EnumeratorTarget),
@@ -165,8 +165,8 @@ pub enum StatementKind {
     Switch,
 }
 
-// Absent: the record that stands in the file for a child that is not there. Other: one that refusal 3 names, or that no kind has. Both are records, with
-// a place and children of their own, and no lack of one. A parameter's register is its number plus 1, or 0 for none: `slice_words::param_of` takes 1 off it,
+// Absent: the record that stands in the file for a child that is not there. Other: one that refusal 3 names, or that no kind has. Both are records, which
+// have a place in the file and are walked, and no lack of one. A parameter's register is its number plus 1, or 0 for none: `slice_words::param_of` takes 1 off it,
 // so that 0 stays 0, as an action has it.
 #[derive(Clone, Copy)]
 pub enum Record {

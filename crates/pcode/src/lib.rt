@@ -147,7 +147,7 @@ impl Row {
 }
 
 // The callers of CallFunction, CallMethod, InitArray, InitObject, NewMethod and StartDrag say their own delta. No From: its one law would join the two clauses,
-// and callers take the code or the delta alone.
+// which proofs cite one by one.
 pub fn row_of(o: Op) -> Row
     ensures code { result.code ≡ (row_of o).code }
     ensures delta { delta_of result.delta ≡ (row_of o).delta }
