@@ -1,6 +1,7 @@
 #![tactic(auto)]
 
-// A record's words as the enum of `hir`, and a function's record as a struct.
+// A record's words as the enum of `hir`, and a function's record as a struct. Here the file's numbers become enums, so numbers stand in the arms. The enums
+// are `hir`'s and the words `script_records`'s, neither of this crate: functions make the one of the other, since From can be written only beside one of the two.
 ghost use Rattle.std.specs.Prelude.{◌≡◌, ◌<◌, get_or};
 ghost use Rattle.hir.specs.declared.BinaryOperator as binary;
 ghost use Rattle.script_records.specs.Kind.{number_of};
@@ -14,7 +15,7 @@ use hir::{
 use script_records::kind::Kind;
 use script_records::layout::Row;
 
-// A word in two's complement.
+// A word in two's complement: the library's `cast_signed` under the definition's name. `leaves::word_of` is the way back.
 #[tactic(auto, using(crate::proofs::DecodeLaws::cast_is_signed))]
 pub fn to_signed(w: u32) -> i32
     ensures { result ≡ signed w }
@@ -131,7 +132,7 @@ fn condition(r: Row) -> ForCondition
     ForCondition::Enumerate(EnumeratorTarget::Register((r.c % 256) as u8))
 }
 
-// Not one of the kinds that refusal 3 names.
+// Not one of the kinds that refusal 3 names. A word that is no kind is none of them either, so the word is asked and no Kind made of it.
 pub fn is_supported(kind: u32) -> bool
     ensures { result ≡ supported kind }
 {
@@ -236,7 +237,8 @@ pub fn record_of(r: Row) -> Record
 }
 
 // A function's record. Its name is the index of a string. The marks in declaration order: preload_this, suppress_this, preload_arguments, suppress_arguments, preload_super,
-// suppress_super, preload_root, preload_parent, preload_global.
+// suppress_super, preload_root, preload_parent, preload_global. They are flags by place, since they are read and written as bits one after the other, all nine:
+// nine fields would be nine lines at each of those places.
 #[derive(Clone, Copy)]
 pub struct Function {
     pub name: Option<u32>,

@@ -108,8 +108,9 @@ pub enum ConstantKind {
     Register(u8),
 }
 
-// A function's name is its index plus 1, or 0, and its marks are bits 0 to 8, as the record's words have them: an Option here would be turned back into the
-// word by each crate that writes it. `decode::function_of` says it as an Option.
+// A function's name is the record's word, its index plus 1, or 0 for none: who matches on a record asks no more than whether it has a name, `operators::Shape` by
+// `name != 0`, and `leaves::leaves_value`, which takes an empty one for none. Its marks are the word's bits 0 to 8, which no match reads: as flags nine would be
+// made for each function that is decoded. Who writes a function takes `decode::function_of`, which says the name as an Option and the marks as flags.
 #[derive(Clone, Copy)]
 pub enum ExprKind {
     Constant(ConstantKind),
@@ -142,6 +143,7 @@ pub enum EnumeratorTarget {
     Register(u8),
 }
 
+// The two forms of a `for` by their names: as an Option a classic one would be None, though it has parts of its own.
 #[derive(Clone, Copy)]
 pub enum ForCondition {
     Enumerate(EnumeratorTarget),
@@ -163,7 +165,9 @@ pub enum StatementKind {
     Switch,
 }
 
-// Other: a record that refusal 3 names, or that no kind has. A parameter's register is its number plus 1, or 0 for none, as the record's words have it.
+// Absent: the record that stands in the file for a child that is not there. Other: one that refusal 3 names, or that no kind has. Both are records, which
+// have a place in the file and are walked, and no lack of one. A parameter's register is its number plus 1, or 0 for none: `slice_words::param_of` takes 1 off it,
+// so that 0 stays 0, as an action has it.
 #[derive(Clone, Copy)]
 pub enum Record {
     Statement(StatementKind),

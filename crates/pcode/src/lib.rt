@@ -97,7 +97,8 @@ pub enum PushValue {
     Constant(u32),
 }
 
-// A label's number, an action's position in its list, and a byte offset: none stands for another.
+// A label's number, an action's position in its list, and a byte offset: none stands for another. Three types of a line each, where one with a type parameter
+// would need three types to tell its uses apart.
 #[derive(Clone, Copy)]
 pub struct Label(pub u32);
 
@@ -130,7 +131,7 @@ impl Delta {
     }
 }
 
-// An action's code and what it does to the stack.
+// An action's code and what it does to the stack. `Op` is the enum of what stands here by its code, the byte that is written.
 #[derive(Clone, Copy)]
 pub struct Row {
     pub code: u32,
@@ -145,7 +146,8 @@ impl Row {
     }
 }
 
-// The callers of CallFunction, CallMethod, InitArray, InitObject, NewMethod and StartDrag say their own delta.
+// The callers of CallFunction, CallMethod, InitArray, InitObject, NewMethod and StartDrag say their own delta. No From: its one law would join the two clauses,
+// which proofs cite one by one.
 pub fn row_of(o: Op) -> Row
     ensures code { result.code ≡ (row_of o).code }
     ensures delta { delta_of result.delta ≡ (row_of o).delta }

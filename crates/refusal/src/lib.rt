@@ -34,6 +34,7 @@ impl Refusal {
     }
 }
 
+// `fmt` has the parameters that Display gives it.
 impl fmt::Display for Refusal {
     fn fmt<W: fmt::Write>(&self, f: &mut fmt::Formatter<W>) -> fmt::Result {
         match self {

@@ -1,13 +1,12 @@
 -- The form of a record of no kind.
-use Prim.Native.Nat.{ℕ, zero, suc, ◌≤◌, ◌<◌}
+use Prim.Native.Nat.{ℕ, zero, suc}
 use mathlib.Core.Path.{◌≡◌, refl}
 use mathlib.Core.Bool.{Bool, true, false}
 use mathlib.Core.List.{List, [], ◌∷◌}
 use lib.ListN.{get_or}
 use native.Mathlib.Omega.{arith}
 use borrow.Author.Tests.{ne_eqb}
-use Rattle.std.specs.Prelude.{◌⊎◌, Option, Some, None, Err}
-use Rattle.std.proofs.Common.{inl, inr}
+use Rattle.std.specs.Prelude.{Option, Some, None, Err}
 use Rattle.script_records.specs.Kind.{kinds, kind_from}
 use Rattle.script_records.specs.declared.kind.Kind.{Kind}
 use Rattle.script_records.specs.declared.kind.UnknownKind.{UnknownKind}
@@ -45,11 +44,8 @@ unknown_at : (n : ℕ) → get_or kinds n None ≡ None → get_or kind_forms n 
 unfolding agree
 unknown_at n e = unknown_in kinds kind_forms n refl e
 
-not_named : {n : ℕ} (j : ℕ) → ((16 ≤ n) × (n < 32)) ⊎ (((78 ≤ n) × (n < 96)) ⊎ (102 ≤ n)) → (j < 16) ⊎ ((32 ≤ j) × (j < 78)) → n ≡ j → ⊥
-not_named j g h e = omega arith
-
 pub form_unknown : (w : Words) {e : UnknownKind} → kind_from w.kind ≡ Err e → form_of w ≡ unknown
 unfolding form_of
 form_unknown w h =
     let gap = unknown_from w.kind h in
-    rw (ne_eqb w.kind 5 (not_named 5 gap (inl (omega arith))), ne_eqb w.kind 32 (not_named 32 gap (inr (omega arith, omega arith))), ne_eqb w.kind 41 (not_named 41 gap (inr (omega arith, omega arith)))) (unknown_at w.kind (none_from w.kind h))
+    rw (ne_eqb w.kind 5 (λ e. omega (arith, gap)), ne_eqb w.kind 32 (λ e. omega (arith, gap)), ne_eqb w.kind 41 (λ e. omega (arith, gap))) (unknown_at w.kind (none_from w.kind h))

@@ -14,9 +14,10 @@ use Rattle.decode.specs.Decode.{signed, is_one, affix_of, binary_operators, unar
 use Rattle.decode.specs.Numbers.{words, bit, unsigned, affix_place, binary_place, words_for, marks_number, name_number, function_words}
 use Rattle.script.specs.Forms.{Scalar, below, string, optional-string, limit, Form, form, counted, unsupported, unknown, kind_forms, form_of, has_form, fits}
 use Rattle.script.specs.Rules.{all_below}
-use Rattle.script.proofs.WrittenRows.{first, second}
+use Rattle.std.proofs.lemmas.Bool.{and_parts}
 use Rattle.script.proofs.Written.{below_at}
 
+-- the library's `cases_Bool` as a choice of two proofs, since below thirteen tests stand in one another
 decide : (t : Bool) {P : Type 0} → (t ≡ true → P) → (t ≡ false → P) → P
 decide true f g = f refl
 decide false f g = g refl
@@ -30,13 +31,13 @@ Bounded m unknown a b c = ⊥
 
 bounded : (m : ℕ) (f : Form) (w : Words) (kids : Forest Words) → has_form m f w kids ≡ true → Bounded m f w.a w.b w.c
 bounded m (form sa sb sc sorts) w kids h =
-    let all = first (ltb w.a (limit m sa) && (ltb w.b (limit m sb) && ltb w.c (limit m sc))) _ h in
-    let rest = second (ltb w.a (limit m sa)) _ all in
-    (ltb-true _ _ (first (ltb w.a (limit m sa)) _ all), (ltb-true _ _ (first (ltb w.b (limit m sb)) _ rest), ltb-true _ _ (second (ltb w.b (limit m sb)) _ rest)))
+    let all = (and_parts (ltb w.a (limit m sa) && (ltb w.b (limit m sb) && ltb w.c (limit m sc))) _ h).0 in
+    let rest = (and_parts (ltb w.a (limit m sa)) _ all).1 in
+    (ltb-true _ _ ((and_parts (ltb w.a (limit m sa)) _ all).0), (ltb-true _ _ ((and_parts (ltb w.b (limit m sb)) _ rest).0), ltb-true _ _ ((and_parts (ltb w.b (limit m sb)) _ rest).1)))
 bounded m counted w kids h =
-    let all = first (eqb w.b 0 && eqb w.c 0) _ h in
-    let b = eqb-true w.b 0 (first (eqb w.b 0) _ all) in
-    let c = eqb-true w.c 0 (second (eqb w.b 0) _ all) in
+    let all = (and_parts (eqb w.b 0 && eqb w.c 0) _ h).0 in
+    let b = eqb-true w.b 0 ((and_parts (eqb w.b 0) _ all).0) in
+    let c = eqb-true w.c 0 ((and_parts (eqb w.b 0) _ all).1) in
     (tt, (omega arith, omega arith))
 bounded m unsupported w kids h = tt
 bounded m unknown w kids h = let z : ◌≡◌ {A = ℕ} 0 1 = cc in omega arith
@@ -166,12 +167,12 @@ same v w = eqb v.kind w.kind && (eqb v.a w.a && (eqb v.b w.b && eqb v.c w.c))
 same_true : (v w : Words) → same v w ≡ true → v ≡ w
 unfolding same
 same_true v w h =
-    let abc = second (eqb v.kind w.kind) _ h in
-    let bc = second (eqb v.a w.a) _ abc in
-    let k = eqb-true v.kind w.kind (first (eqb v.kind w.kind) _ h) in
-    let a = eqb-true v.a w.a (first (eqb v.a w.a) _ abc) in
-    let b = eqb-true v.b w.b (first (eqb v.b w.b) _ bc) in
-    let c = eqb-true v.c w.c (second (eqb v.b w.b) _ bc) in
+    let abc = (and_parts (eqb v.kind w.kind) _ h).1 in
+    let bc = (and_parts (eqb v.a w.a) _ abc).1 in
+    let k = eqb-true v.kind w.kind ((and_parts (eqb v.kind w.kind) _ h).0) in
+    let a = eqb-true v.a w.a ((and_parts (eqb v.a w.a) _ abc).0) in
+    let b = eqb-true v.b w.b ((and_parts (eqb v.b w.b) _ bc).0) in
+    let c = eqb-true v.c w.c ((and_parts (eqb v.b w.b) _ bc).1) in
     λ i. record { kind = k i; a = a i; b = b i; c = c i }
 
 is_unused : Scalar → Bool
@@ -186,7 +187,7 @@ without_words counted s = false
 without_words unsupported s = false
 without_words unknown s = true
 
--- a kind that has words, is not supported, is none, or that decoding keeps
+-- a test of this file and no lemma: a kind that has words, is not supported, is none, or that decoding keeps
 plain_kept : ℕ → Bool
 plain_kept k = has_words k || (not (supported k) || without_words (get_or kind_forms k unknown) (same (words_for (plain_of k)) (words k 0 0 0)))
 
@@ -204,16 +205,17 @@ module _ (m k a b c : ℕ) (v : Words) where
   without_words_lem : (f : Form) → without_words f (same v (words k 0 0 0)) ≡ true → Bounded m f a b c → v ≡ words k a b c
   unfolding without_words
   without_words_lem (form sa sb sc sorts) h l =
-      let all = first (is_unused sa && (is_unused sb && is_unused sc)) _ h in
-      let rest = second (is_unused sa) _ all in
-      let p = unused_zero m sa (first (is_unused sa) _ all) a l.0 in
-      let q = unused_zero m sb (first (is_unused sb) _ rest) b l.1.0 in
-      let r = unused_zero m sc (second (is_unused sb) _ rest) c l.1.1 in
-      rw (p, q, r) (same_true v (words k 0 0 0) (second (is_unused sa && (is_unused sb && is_unused sc)) _ h))
+      let all = (and_parts (is_unused sa && (is_unused sb && is_unused sc)) _ h).0 in
+      let rest = (and_parts (is_unused sa) _ all).1 in
+      let p = unused_zero m sa ((and_parts (is_unused sa) _ all).0) a l.0 in
+      let q = unused_zero m sb ((and_parts (is_unused sb) _ rest).0) b l.1.0 in
+      let r = unused_zero m sc ((and_parts (is_unused sb) _ rest).1) c l.1.1 in
+      rw (p, q, r) (same_true v (words k 0 0 0) ((and_parts (is_unused sa && (is_unused sb && is_unused sc)) _ h).1))
   without_words_lem counted h l = cc
   without_words_lem unsupported h l = cc
   without_words_lem unknown h l = absurd l
 
+-- The library has no lemma of this shape: what is left of a disjunction of three tests
 left_over : (s t u : Bool) → (s || (not t || u)) ≡ true → s ≡ false → t ≡ true → u ≡ true
 left_over true t u h p q = cc
 left_over false true u h p q = h

@@ -1,17 +1,20 @@
 -- The rules of one record: what each step of the walks over its children gives.
-use Prim.Native.Nat.{ℕ, zero, suc, ◌+◌, ◌-◌, ◌≤◌, ◌<◌}
-use mathlib.Core.Path.{◌≡◌, refl, ap, ◌∙◌}
+use Prim.Native.Nat.{ℕ, zero, suc, ◌+◌, ◌-◌, ◌≤◌, ◌<◌, min, max}
+use mathlib.Core.Path.{◌≡◌, refl, sym, ap, ◌∙◌}
 use mathlib.Core.List.{List, [], ◌∷◌, ◌++◌, reverse}
 use Rattle.std.proofs.lemmas.List.{reverse-append}
-use mathlib.Core.Bool.{Bool, true, false, cond, ◌&&◌}
+use mathlib.Core.Bool.{Bool, true, false, ◌&&◌}
 use Rattle.std.specs.Prelude.{◌⊎◌, Some, None}
 use Rattle.std.proofs.Common.{inl, inr}
+use Rattle.std.proofs.lemmas.Bool.{false_from_ne_true}
+use Rattle.std.proofs.lemmas.Option.{cond_some}
 use lib.ListN.{length}
 use denote.Ref.{Bor}
 use lib.Dec.{eqb, ltb, leb, eqb-suc-zero}
 use native.Mathlib.Nat.{zero-add}
 use native.Mathlib.Omega.{arith}
 use borrow.Author.Tests.{le-leb, lt-leb}
+use Rattle.std.proofs.lemmas.Bool.Decides.{nat_tests}
 use Rattle.hir.specs.Tree.{Forest}
 use Rattle.script_records.specs.declared.layout.Row.{Row}
 use Rattle.script_records.specs.declared.part.Part.{Part}
@@ -75,12 +78,16 @@ module _ (rs : List Row) (p : Part) {t : Tree} (e : t ≡ last_tree rs p) (some_
   unfolding last_tree
   tree_parted = rw e (parted_law rs p.end p.n some_left)
 
-  pub parted_not : (t.row.size ≡ 0) ⊎ ((t.row.size ≡ 0 → ⊥) × (p.n < t.row.size)) → parted_part rs p ≡ false
-  parted_not (inl h) = rw (tree_parted, h)
-  parted_not (inr h) = rw (tree_parted, le-leb 1 t.row.size (omega arith), lt-leb t.row.size p.n h.1)
+  -- the children and their record are as many as its size says, where that is at least 1 and no more than the part holds
+  held : t.children.n + 1 ≡ min (max t.row.size 1) p.n
+  unfolding last_tree span_at
+  held = rw e (omega arith)
 
-  pub parted_next : (t.row.size ≡ 0 → ⊥) → t.row.size ≤ p.n → parted_part rs p ≡ parted_part rs t.before
-  parted_next z h = rw (tree_parted, le-leb 1 t.row.size (omega arith), le-leb t.row.size p.n h)
+  pub parted_not : (t.row.size ≡ t.children.n + 1 → ⊥) → parted_part rs p ≡ false
+  parted_not h = rw tree_parted (grind (arith, nat_tests, held))
+
+  pub parted_next : t.row.size ≡ t.children.n + 1 → parted_part rs p ≡ parted_part rs t.before
+  parted_next h = rw (tree_parted, le-leb 1 t.row.size (omega arith), le-leb t.row.size p.n (omega (arith, held)))
 
   pub trees_next : trees (trees_in rs p) ≡ trees (trees_in rs t.before) + 1
   unfolding trees
@@ -106,10 +113,10 @@ module _ (rs : List Row) (whole part : Part) (n : ℕ) (before : Passed rs whole
   pub siblings_counted : part.n ≡ 0 → Some n ≡ siblings_of rs whole
   siblings_counted h = let d = trees_done rs part h in rw (before.sizes, d.0, before.number, d.1, zero-add)
 
-  pub passed_one : {t : Tree} → t ≡ last_tree rs part → 0 < part.n → (t.row.size ≡ 0 → ⊥) → t.row.size ≤ part.n → Passed rs whole t.before (n + 1)
-  passed_one e l z h =
+  pub passed_one : {t : Tree} → t ≡ last_tree rs part → 0 < part.n → t.row.size ≡ t.children.n + 1 → Passed rs whole t.before (n + 1)
+  passed_one e l h =
       record {
-        sizes = before.sizes ∙ parted_next rs part e l z h;
+        sizes = before.sizes ∙ parted_next rs part e l h;
         number = omega (arith, before.number, trees_next rs part e l);
         few = omega (arith, before.few, (tree_less rs part e l).1);
       }
@@ -126,8 +133,9 @@ pub match_done : (rs : List Row) (ss : List Sort) (p : Part) → length ss ≡ 0
 match_done rs [] p h = match_empty rs p.end p.n
 match_done rs (s ∷ ss) p h = absurd (omega arith)
 
-turned : {ss : List Sort} (left : List Sort) (s : Sort) → ss ≡ left ++ s ∷ [] → reverse ss ≡ s ∷ reverse left
-turned left s last = ap reverse last ∙ reverse-append left (s ∷ [])
+-- the library's `reverse-append`, where the last element is one
+pub turned : {A : Type 0} {xs : List A} (others : List A) (x : A) → xs ≡ others ++ x ∷ [] → reverse xs ≡ x ∷ reverse others
+turned others x last = ap reverse last ∙ reverse-append others (x ∷ [])
 
 -- sorts ss, of which s is the last
 module _ (rs : List Row) {ss : List Sort} (left : List Sort) (s : Sort) (p : Part) (last : ss ≡ left ++ s ∷ []) where
@@ -168,14 +176,6 @@ module _ (m : ℕ) (f : code_form.Form) (r : Row) (kids : Forest Words) (e : for
     unfolding fits
     fits_children k p = rw (← e, h, ← q, k) p
 
-not_some : (b : Bool) (n : ℕ) → None ≡ cond b (Some n) None → b ≡ false
-not_some true n h = cc
-not_some false n h = refl
-
-is_some : (b : Bool) (n : ℕ) {k : ℕ} → Some k ≡ cond b (Some n) None → (b ≡ true) × (k ≡ n)
-is_some true n h = (refl, cc)
-is_some false n h = (cc, cc)
-
 -- record i, whose row is r and whose children are the records before it that its size counts
 module _ (m : ℕ) (rs : List Row) (i : ℕ) {r : Row} (e : r ≡ row_in rs i) where
   pub record_large : (r.size ≡ 0) ⊎ ((r.size ≡ 0 → ⊥) × (i < r.size - 1)) → false ≡ record_holds m rs i
@@ -189,11 +189,11 @@ module _ (m : ℕ) (rs : List Row) (i : ℕ) {r : Row} (e : r ≡ row_in rs i) w
     holds_law = rw (← e, le-leb 1 r.size (omega arith), le-leb r.size (i + 1) (omega arith))
 
     pub record_broken : None ≡ siblings_of rs (record { end = i; n = r.size - 1 }) → false ≡ record_holds m rs i
-    record_broken q = rw (holds_law, not_some (parted rs i (r.size - 1)) _ q)
+    record_broken q = rw (holds_law, false_from_ne_true (parted rs i (r.size - 1)) (λ h. let e = rw h at q in cc))
 
     module _ {n : ℕ} (q : Some n ≡ siblings_of rs (record { end = i; n = r.size - 1 })) where
       counted_both : (parted rs i (r.size - 1) ≡ true) × (n ≡ trees (forest rs i (r.size - 1)))
-      counted_both = is_some (parted rs i (r.size - 1)) _ q
+      counted_both = let h = cond_some (parted rs i (r.size - 1)) _ _ (sym q) in (h.0, sym h.1)
 
       pub record_count_lem : n ≡ trees (forest rs i (r.size - 1))
       record_count_lem = counted_both.1

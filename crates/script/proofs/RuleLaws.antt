@@ -4,12 +4,14 @@ use mathlib.Core.Path.{◌≡◌, refl, sym, ap, ◌∙◌}
 use mathlib.Core.List.{List, [], ◌∷◌, ◌++◌, reverse}
 use mathlib.Core.Bool.{Bool, true, false, ◌&&◌, and-false}
 use lib.Dec.{ltb}
+use Rattle.std.proofs.lemmas.Bool.Decides.{nat_tests}
 use lib.ListN.{length, length-append}
 use Rattle.std.proofs.lemmas.List.{reverse-append, length-reverse}
 use native.Mathlib.Nat.{add-suc}
 use native.Mathlib.Numerals.{add-one}
 use native.Mathlib.Omega.{arith}
-use borrow.Author.Tests.{ltb-true, ltb-false, eq-eqb, ne_eqb, lt-ltb, le-ltb, le-leb}
+use native.Mathlib.Nat.{sub-zero}
+use borrow.Author.Tests.{eq-eqb, ne_eqb, lt-ltb, le-ltb, le-leb}
 use Rattle.hir.specs.Tree.{depth}
 use Rattle.script_records.specs.declared.layout.Layout.{Layout}
 use Rattle.script_records.specs.declared.layout.Row.{Row}
@@ -20,6 +22,7 @@ use Rattle.script.specs.Forms.{statement, is_list}
 use Rattle.script.specs.Rules.{all_below, ends_hold, records_hold, rules_hold, check_of, max_depth, root_holds, all_utf8, all_supported, tree_in}
 use Rattle.utf8.specs.Utf8.{utf8}
 use Rattle.script_records.proofs.Trees.{forest_none, forest_more, span_le, span_pos}
+use Rattle.script.proofs.RecordLaws.{turned}
 
 -- a test of every number below n
 module _ (t : ℕ → Bool) where
@@ -28,6 +31,7 @@ module _ (t : ℕ → Bool) where
     pub most : i ≤ n
     pub all : all_below t i ≡ true
 
+  -- where each loop begins: the answer of its init goal is this lemma itself
   pub upto_zero : (n : ℕ) → Upto n 0
   unfolding all_below
   upto_zero n = record { most = omega arith; all = refl }
@@ -110,40 +114,15 @@ pub record Deep (rs : List Row) (d : ℕ) (starts : List ℕ) (i : ℕ) : Type 0
   pub ordered : Ordered (reverse starts) i
   pub same : ltb 128 d ≡ ltb 128 (deepest rs (reverse starts) i)
 
-only : (x : ℕ) → max (0 + x) 0 ≡ x
-only x = omega arith
-
-less_none : (n : ℕ) → n - 0 ≡ n
-less_none n = omega arith
-
 pub deep_start : (rs : List Row) (n : ℕ) → Deep rs (depth (forest rs n n)) (0 ∷ []) n
 unfolding Ordered deepest
-deep_start rs n = record { few = omega arith; ordered = (omega arith, tt); same = rw (only (depth (forest rs n (n - 0))), less_none n) }
+deep_start rs n = record { few = omega arith; ordered = (omega arith, tt); same = rw sub-zero (ap (ltb 128) (omega arith)) }
 
 -- no ancestor is open
 pub deep_end : (rs : List Row) (d : ℕ) (starts : List ℕ) (i : ℕ) → Deep rs d starts i → length starts ≡ 0 → false ≡ ltb 128 d
 unfolding deepest
 deep_end rs d [] i f h = sym f.same
 deep_end rs d (s ∷ ss) i f h = absurd (omega arith)
-
-over_max : (k x : ℕ) → k ≤ 128 → ltb 128 (max k x) ≡ ltb 128 x
-over_max k x h = by_test (ltb 128 x) refl
-  where
-    by_test : (b : Bool) → ltb 128 x ≡ b → ltb 128 (max k x) ≡ ltb 128 x
-    by_test true e = let l : 128 < x = ltb-true 128 x e in rw e (lt-ltb 128 (max k x) (omega arith))
-    by_test false e = let l : x ≤ 128 = ltb-false 128 x e in rw e (le-ltb 128 (max k x) (omega arith))
-
-over : (k a b x : ℕ) → 128 ≤ k → 128 < max (k + max a (suc b)) x
-over k a b x h = omega arith
-
-inner : (i n s : ℕ) → s ≤ n → 0 < s → n ≤ i → i - 1 - (i - s) ≡ s - 1
-inner i n s a b h = omega arith
-
-outer : (i m s : ℕ) → i - s - m ≡ i - m - s
-outer i m s = omega arith
-
-deeper : (k a b x : ℕ) → max (k + max a (suc b)) x ≡ max (suc k + b) (max (k + a) x)
-deeper k a b x = omega arith
 
 -- the innermost ancestor starts at s, the others at ss
 module _ (rs : List Row) (s : ℕ) (ss : List ℕ) (i : ℕ) where
@@ -153,7 +132,7 @@ module _ (rs : List Row) (s : ℕ) (ss : List ℕ) (i : ℕ) where
   deepest_pop h e =
       let z : i - i ≡ 0 = omega arith in
       let y : length ss + 0 ≡ length ss = omega arith in
-      rw (e, z, forest_none, y) (over_max (length ss) (deepest rs ss i) h)
+      rw (e, z, forest_none, y) (grind (arith, nat_tests))
 
   module _ (below : s ≤ i) (apart : s ≡ i → ⊥) where
     left_some : 0 < i - s
@@ -161,7 +140,7 @@ module _ (rs : List Row) (s : ℕ) (ss : List ℕ) (i : ℕ) where
 
     over_full : 128 ≤ length ss → ltb 128 (deepest rs (s ∷ ss) i) ≡ true
     unfolding deepest depth
-    over_full h = rw (forest_more rs i (i - s) left_some) (lt-ltb 128 _ (over (length ss) _ _ _ h))
+    over_full h = rw (forest_more rs i (i - s) left_some) (lt-ltb 128 _ (omega arith))
 
     abbrev span : ℕ
     span = span_at rs i (i - s)
@@ -171,9 +150,9 @@ module _ (rs : List Row) (s : ℕ) (ss : List ℕ) (i : ℕ) where
     deepest_push =
         let a = span_le rs i (i - s) in
         let b = span_pos rs i (i - s) left_some in
-        let p : i - 1 - (i - span) ≡ span - 1 = inner i (i - s) span a b (omega arith) in
-        let q : i - span - s ≡ i - s - span = outer i s span in
-        rw (forest_more rs i (i - s) left_some, p, q) (deeper (length ss) _ _ _)
+        let p : i - 1 - (i - span) ≡ span - 1 = omega arith in
+        let q : i - span - s ≡ i - s - span = omega arith in
+        rw (forest_more rs i (i - s) left_some, p, q) (omega arith)
 
     ordered_push : Ordered ss s → Ordered ((i - span) ∷ s ∷ ss) (i - 1)
     unfolding Ordered
@@ -181,12 +160,6 @@ module _ (rs : List Row) (s : ℕ) (ss : List ℕ) (i : ℕ) where
         let a = span_le rs i (i - s) in
         let b = span_pos rs i (i - s) left_some in
         (omega arith, (omega arith, o))
-
-turned : {starts : List ℕ} (others : List ℕ) (s : ℕ) → starts ≡ others ++ s ∷ [] → reverse starts ≡ s ∷ reverse others
-turned others s e = ap reverse e ∙ reverse-append others (s ∷ [])
-
-turned_twice : (others : List ℕ) (s v : ℕ) → reverse ((others ++ s ∷ []) ++ v ∷ []) ≡ v ∷ s ∷ reverse others
-turned_twice others s v = reverse-append (others ++ s ∷ []) (v ∷ []) ∙ ap (λ (ss : List ℕ). v ∷ ss) (turned others s refl)
 
 -- the innermost ancestor, which starts at s, is taken from the others
 module _ (rs : List Row) (d : ℕ) {starts : List ℕ} (others : List ℕ) (s i : ℕ) (e : starts ≡ others ++ s ∷ []) (f : Deep rs d starts i) where
@@ -220,8 +193,8 @@ module _ (rs : List Row) (d : ℕ) {starts : List ℕ} (others : List ℕ) (s i 
     unfolding Ordered last_tree
     deep_push h q = rw q (record {
       few = rw (length-append, length-append) (omega (arith, count));
-      ordered = rw (turned_twice others s) (ordered_push rs s (reverse others) i deep_below apart still_open.1);
-      same = same_open ∙ rw (turned_twice others s) (ap (ltb 128) (deepest_push rs s (reverse others) i deep_below apart));
+      ordered = rw (reverse-append (others ++ s ∷ []), turned others s refl) (ordered_push rs s (reverse others) i deep_below apart still_open.1);
+      same = same_open ∙ rw (reverse-append (others ++ s ∷ []), turned others s refl) (ap (ltb 128) (deepest_push rs s (reverse others) i deep_below apart));
     })
 
 -- the rules together

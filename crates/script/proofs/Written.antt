@@ -23,20 +23,21 @@ use Rattle.script.specs.Write.{text, ends_from, record_words, rows_of_trees, tra
 use Rattle.script_records.proofs.Trees.{forest_none}
 use Rattle.script.proofs.RecordLaws.{parted_none}
 use Rattle.script_records.proofs.LayoutLaws.{rows_length}
-use Rattle.script.proofs.WrittenRows.{both, first, second, forest_step, parted_step, forest_count, rows_part, rows_tree, tree_size, fits_part, At, at_left, at_right, rows_count, rows_forest, rows_hold, root_written}
+use Rattle.script.proofs.WrittenRows.{forest_step, parted_step, forest_count, rows_part, rows_tree, tree_size, fits_part, At, at_left, at_right, rows_count, rows_forest, rows_hold, root_written}
 use Rattle.script.proofs.WrittenBytes.{words_from, words_add, word_small, drop_words, record_words_lem, Small, small_append, bytes_length, words_at, same_rows, record_append, record_length, strings_length, ends_written, text_written, Tabled, tabled_strings, tabled_last, tabled_rises, Areas, areas_of, areas_hold, areas_layout}
+use Rattle.std.proofs.lemmas.Bool.{and_parts, and_from}
 
 pub below_at : (t : ℕ → Bool) (n i : ℕ) → all_below t n ≡ true → i < n → t i ≡ true
 unfolding all_below
 below_at t zero i h k = absurd (omega arith)
-below_at t (suc n) i h k = by (ltb i n) refl (below_at t n i (first (all_below t n) (t n) h))
+below_at t (suc n) i h k = by (ltb i n) refl (below_at t n i ((and_parts (all_below t n) (t n) h).0))
   where
     by : (x : Bool) → ltb i n ≡ x → (i < n → t i ≡ true) → t i ≡ true
     by true e f = f (ltb-true i n e)
     by false e f =
         let low : n ≤ i = ltb-false i n e in
         let q : n ≡ i = omega arith in
-        rw q at (second (all_below t n) (t n) h)
+        rw q at ((and_parts (all_below t n) (t n) h).1)
 
 bytes_take : (n : ℕ) (F : List ℕ) → Bytes F → Bytes (take n F)
 bytes_take zero F h i = omega arith
@@ -56,9 +57,9 @@ module _ (rs : List Row) where
   unfolding root_holds is_script
   root_tree zero h = (cc, cc)
   root_tree (suc b) h =
-      let tests = rw sub-one at (second (leb 1 (suc b)) _ h) in
-      let size = eqb-true (row_in rs b).size (suc b) (first (eqb (row_in rs b).size (suc b)) _ tests) in
-      let list = second (eqb (row_in rs b).size (suc b)) _ tests in
+      let tests = rw sub-one at ((and_parts (leb 1 (suc b)) _ h).1) in
+      let size = eqb-true (row_in rs b).size (suc b) ((and_parts (eqb (row_in rs b).size (suc b)) _ tests).0) in
+      let list = (and_parts (eqb (row_in rs b).size (suc b)) _ tests).1 in
       let one = root_one b size in
       (rw one.0 (rw (size, sub-one) at list), one.1)
 
@@ -91,26 +92,26 @@ module _ (F : List ℕ) (rules : rules_hold F ≡ true) where
   parts = rules
 
   areas : Areas F l
-  areas = areas_of F (first (has_trailer F && areas_touch F) _ parts)
+  areas = areas_of F ((and_parts (has_trailer F && areas_touch F) _ parts).0)
 
   ends : ends_hold F l ≡ true
-  ends = first (ends_hold F l) (records_hold F l) (second (has_trailer F && areas_touch F) _ parts)
+  ends = (and_parts (ends_hold F l) (records_hold F l) ((and_parts (has_trailer F && areas_touch F) _ parts).1)).0
 
   records : records_hold F l ≡ true
-  records = second (ends_hold F l) (records_hold F l) (second (has_trailer F && areas_touch F) _ parts)
+  records = (and_parts (ends_hold F l) (records_hold F l) ((and_parts (has_trailer F && areas_touch F) _ parts).1)).1
 
   rise : (i : ℕ) → i < l.strings → start_at F l i ≤ end_at F l i
-  rise i h = leb-true (start_at F l i) (end_at F l i) (below_at (λ j. leb (start_at F l j) (end_at F l j)) l.strings i (first (all_below (λ j. leb (start_at F l j) (end_at F l j)) l.strings) _ ends) h)
+  rise i h = leb-true (start_at F l i) (end_at F l i) (below_at (λ j. leb (start_at F l j) (end_at F l j)) l.strings i ((and_parts (all_below (λ j. leb (start_at F l j) (end_at F l j)) l.strings) _ ends).0) h)
 
   last : start_at F l l.strings ≡ l.ends
-  last = eqb-true (start_at F l l.strings) l.ends (second (all_below (λ j. leb (start_at F l j) (end_at F l j)) l.strings) _ ends)
+  last = eqb-true (start_at F l l.strings) l.ends ((and_parts (all_below (λ j. leb (start_at F l j) (end_at F l j)) l.strings) _ ends).1)
 
   pub all_hold : (i : ℕ) → i < l.count → record_holds l.strings rows i ≡ true
-  all_hold i = below_at (record_holds l.strings rows) l.count i (first (all_below (record_holds l.strings rows) l.count) _ records)
+  all_hold i = below_at (record_holds l.strings rows) l.count i ((and_parts (all_below (record_holds l.strings rows) l.count) _ records).0)
 
   root : (is_script (tree_in F l) ≡ true) × (parted rows l.count l.count ≡ true)
   unfolding tree_in
-  root = root_tree rows l.count (second (all_below (record_holds l.strings rows) l.count) _ records)
+  root = root_tree rows l.count ((and_parts (all_below (record_holds l.strings rows) l.count) _ records).1)
 
   pub rows_long : length (rows_of F (layout_of F)) ≡ l.count
   unfolding rows_of
@@ -163,7 +164,7 @@ module _ (F : List ℕ) (rules : rules_hold F ≡ true) where
 below_all : (t : ℕ → Bool) (n : ℕ) → ((i : ℕ) → i < n → t i ≡ true) → all_below t n ≡ true
 unfolding all_below
 below_all t zero h = refl
-below_all t (suc n) h = both (below_all t n (λ i k. h i (omega arith))) (h n (omega arith))
+below_all t (suc n) h = and_from _ _ (below_all t n (λ i k. h i (omega arith))) (h n (omega arith))
 
 -- bytes of what is written
 bytes_both : (xs ys : List ℕ) → Bytes xs → Bytes ys → Bytes (xs ++ ys)
@@ -213,18 +214,18 @@ small_rows : (m : ℕ) (f : Forest Words) → all_fit m f ≡ true → count f <
 unfolding all_fit count rows_of_trees record_words Small
 small_rows m none h k = tt
 small_rows m (more f w kids) h k =
-    let q = second (all_fit m f) _ h in
-    let r = second (all_fit m kids) _ q in
-    let s = second (fits m w kids) (are_words w) r in
-    let t = second (ltb w.a (2 ^ 32)) _ s in
+    let q = (and_parts (all_fit m f) _ h).1 in
+    let r = (and_parts (all_fit m kids) _ q).1 in
+    let s = (and_parts (fits m w kids) (are_words w) r).1 in
+    let t = (and_parts (ltb w.a (2 ^ 32)) _ s).1 in
     let xs : List ℕ = record_words (rows_of_trees f) in
     let ys : List ℕ = record_words (rows_of_trees kids) in
     let zs : List ℕ = record_words (row_of w (suc (count kids)) ∷ []) in
     let last : Small zs =
-    (kind_small m w kids (first (fits m w kids) _ r), (ltb-true _ _ (first (ltb w.a (2 ^ 32)) _ s), (ltb-true _ _ (first (ltb w.b (2 ^ 32)) _ t), (ltb-true _ _ (second (ltb w.b (2 ^ 32)) _ t), (omega arith, tt))))) in
+    (kind_small m w kids ((and_parts (fits m w kids) _ r).0), (ltb-true _ _ ((and_parts (ltb w.a (2 ^ 32)) _ s).0), (ltb-true _ _ ((and_parts (ltb w.b (2 ^ 32)) _ t).0), (ltb-true _ _ ((and_parts (ltb w.b (2 ^ 32)) _ t).1), (omega arith, tt))))) in
     rw (record_append, record_append)
-    (small_append xs (ys ++ zs) (small_rows m f (first (all_fit m f) _ h) (omega arith))
-    (small_append ys zs (small_rows m kids (first (all_fit m kids) _ q) (omega arith)) last))
+    (small_append xs (ys ++ zs) (small_rows m f ((and_parts (all_fit m f) _ h).0) (omega arith))
+    (small_append ys zs (small_rows m kids ((and_parts (all_fit m kids) _ q).0) (omega arith)) last))
 
 small_ends : (ss : List Str) (p : ℕ) → p + length (text ss) < 2 ^ 32 → Small (ends_from p ss)
 unfolding text ends_from Small
@@ -304,17 +305,17 @@ module _ (ss : List Str) (t : Forest Words) (wf : WellFormed ss t) (short : leng
 
   ends_hold_lem : ends_hold F made ≡ true
   ends_hold_lem =
-      both (below_all _ (length ss) (λ i h. le-leb _ _ (rw zero-add at (tabled_rises F made ss 0 0 tabled i h))))
+      and_from _ _ (below_all _ (length ss) (λ i h. le-leb _ _ (rw zero-add at (tabled_rises F made ss 0 0 tabled i h))))
       (eq-eqb _ _ (simp zero-add at (tabled_last F made ss 0 0 tabled)))
 
   records_hold_lem : records_hold F made ≡ true
   records_hold_lem =
-      both (below_all _ (count t) (λ i h. rw zero-add at (rows_hold (rows_of F made) (length ss) t 0 at_rows wf.records i h)))
+      and_from _ _ (below_all _ (count t) (λ i h. rw zero-add at (rows_hold (rows_of F made) (length ss) t 0 at_rows wf.records i h)))
       (root_written (rows_of F made) t at_rows wf.root)
 
   pub accepted : rules_hold (write ss t) ≡ true
   unfolding rules_hold
-  accepted = rw layout (both (areas_hold F made made_areas) (both ends_hold_lem records_hold_lem))
+  accepted = rw layout (and_from _ _ (areas_hold F made made_areas) (and_from _ _ ends_hold_lem records_hold_lem))
 
   pub strings_read : strings_of (write ss t) (layout_of (write ss t)) ≡ ss
   unfolding strings_of

@@ -6,7 +6,7 @@ use mathlib.Core.Bool.{Bool, true, ◌&&◌}
 use lib.Dec.{eqb, leb}
 use lib.ListN.{length, get_or, take, drop, length-append, length-drop, drop_of_length-le}
 use lib.Seq.{drop-cons, get_or-append-add, get_or-append_seam, drop_at, take-append_seam, take-add, drop-drop, length-take-le}
-use native.Mathlib.Nat.{zero-add, add-zero, div-div-eq-div-mul}
+use native.Mathlib.Nat.{zero-add, add-zero}
 use native.Mathlib.Numerals.{add-one, add-two, add-three, add-four}
 use native.Mathlib.Omega.{arith}
 use borrow.Author.Tests.{le-leb, leb-true, eqb-true, eq-eqb}
@@ -17,9 +17,10 @@ use Rattle.script_records.specs.Layout.{word_at, end_at, start_at, string_at, st
 use Rattle.script_records.specs.Layout.{has_trailer, areas_touch}
 use Rattle.script.specs.Rules.{}
 use Rattle.script.specs.Write.{word4, bytes_of, text, ends_from, record_words, Bytes, trailer}
-use Rattle.script.proofs.WrittenRows.{At, at_left, at_right, first, second}
+use Rattle.script.proofs.WrittenRows.{At, at_left, at_right}
+use Rattle.std.proofs.lemmas.Bool.{and_parts}
 
--- from byte position p on, n words
+-- from byte position p on, n words; `words_add` is of this definition
 unfoldable pub words_from : List ℕ → ℕ → ℕ → List ℕ
 words_from F p zero = []
 words_from F p (suc n) = word_at F p ∷ words_from F (p + 4) n
@@ -33,31 +34,14 @@ words_add F p (suc a) b =
     rw (e, words_add F (p + 4) a b, q)
 
 -- a word and its four digits
-low : (a r : ℕ) → a < 256 → (a + 256 * r) % 256 ≡ a
-low a r h = omega arith
-
-rest : (a r : ℕ) → a < 256 → (a + 256 * r) / 256 ≡ r
-rest a r h = omega arith
-
-back : (n : ℕ) → n % 256 + 256 * (n / 256) ≡ n
-back n = omega arith
-
-third : (n : ℕ) → n / 65536 ≡ n / 256 / 256
-third n = sym (div-div-eq-div-mul n 256 256)
-
-fourth : (n : ℕ) → n / 16777216 ≡ n / 256 / 256 / 256
-fourth n = sym (div-div-eq-div-mul n 65536 256) ∙ ap (λ (x : ℕ). x / 256) (third n)
-
 digits : (a b c d : ℕ) → a < 256 → b < 256 → c < 256 → d < 256 → word4 (a + 256 * (b + 256 * (c + 256 * d))) ≡ a ∷ b ∷ c ∷ d ∷ []
 digits a b c d p q r s =
-    let e : d % 256 ≡ d = omega arith in
-    rw (third, fourth, rest a (b + 256 * (c + 256 * d)) p, rest b (c + 256 * d) q, rest c d r, low a (b + 256 * (c + 256 * d)) p, low b (c + 256 * d) q, low c d r, e)
-
-digits_sum : (n : ℕ) → n < 2 ^ 32 → n % 256 + 256 * (n / 256 % 256 + 256 * (n / 65536 % 256 + 256 * (n / 16777216 % 256))) ≡ n
-digits_sum n h =
-    let top : n / 256 / 256 / 256 < 256 = rw (← fourth n) (omega arith) in
-    let e : n / 256 / 256 / 256 % 256 ≡ n / 256 / 256 / 256 = omega arith in
-    rw (third, fourth, e, back (n / 256 / 256), back (n / 256), back n)
+    let n : ℕ = a + 256 * (b + 256 * (c + 256 * d)) in
+    let e0 : n % 256 ≡ a = omega arith in
+    let e1 : n / 256 % 256 ≡ b = omega arith in
+    let e2 : n / 65536 % 256 ≡ c = omega arith in
+    let e3 : n / 16777216 % 256 ≡ d = omega arith in
+    rw (e0, e1, e2, e3)
 
 four : (F : List ℕ) (p : ℕ) → p + 4 ≤ length F → drop p F ≡ get_or F p 0 ∷ get_or F (p + 1) 0 ∷ get_or F (p + 2) 0 ∷ get_or F (p + 3) 0 ∷ drop (p + 4) F
 four F p h =
@@ -95,6 +79,7 @@ unfoldable pub Small : List ℕ → Type 0
 Small [] = Unit
 Small (n ∷ ns) = (n < 2 ^ 32) × Small ns
 
+-- of this file's `Small`
 pub small_append : (xs ys : List ℕ) → Small xs → Small ys → Small (xs ++ ys)
 unfolding Small
 small_append [] ys h k = k
@@ -112,7 +97,7 @@ module _ (F : List ℕ) where
   word_at_lem p n h k =
       let f = h.front in
       let r : List ℕ = word4 n ++ h.back in
-      rw (h.whole, ← h.place, get_or-append_seam, get_or-append-add f r 1 0, get_or-append-add f r 2 0, get_or-append-add f r 3 0) (digits_sum n k)
+      rw (h.whole, ← h.place, get_or-append_seam, get_or-append-add f r 1 0, get_or-append-add f r 2 0, get_or-append-add f r 3 0) (omega arith)
 
   pub words_at : (ns : List ℕ) (p : ℕ) → At F p (bytes_of ns) → Small ns → words_from F p (length ns) ≡ ns
   unfolding bytes_of words_from Small
@@ -283,15 +268,6 @@ five F t =
     let e16 : t + 12 + 4 ≡ t + 16 = omega arith in
     rw (e8, e12, e16)
 
-found_total : (L d m n : ℕ) → 20 ≤ L → d ≡ 20 * n + 4 * m → d ≤ L - 20 → L ≡ L - 20 - d + 4 * (m + (5 * n + 5))
-found_total L d m n h e k = omega arith
-
-found_records : (t r d m n : ℕ) → r ≡ 20 * n → d ≡ 20 * n + 4 * m → d ≤ t → t - r ≡ t - d + 4 * m
-found_records t r d m n e f k = omega arith
-
-found_trailer : (t d m n : ℕ) → d ≡ 20 * n + 4 * m → d ≤ t → t - d + 4 * m + 4 * (5 * n) ≡ t
-found_trailer t d m n e k = omega arith
-
 module _ (F : List ℕ) where
   abbrev found : Layout
   found = record { records = trailer_at F - record_distance F; ends = trailer_at F - end_distance F; count = record_count F; strings = string_count F }
@@ -303,36 +279,37 @@ module _ (F : List ℕ) where
   -- the rules of the trailer
   module _ (rules : (has_trailer F && areas_touch F) ≡ true) where
     has : has_trailer F ≡ true
-    has = first (has_trailer F) (areas_touch F) rules
+    has = (and_parts (has_trailer F) (areas_touch F) rules).0
 
     touch : areas_touch F ≡ true
-    touch = second (has_trailer F) (areas_touch F) rules
+    touch = (and_parts (has_trailer F) (areas_touch F) rules).1
 
     long : 20 ≤ length F
-    long = leb-true 20 (length F) (first (leb 20 (length F)) _ has)
+    long = leb-true 20 (length F) ((and_parts (leb 20 (length F)) _ has).0)
 
     edition_one : edition F ≡ 1
-    edition_one = eqb-true (edition F) 1 (second (leb 20 (length F)) _ has)
+    edition_one = eqb-true (edition F) 1 ((and_parts (leb 20 (length F)) _ has).1)
 
     abbrev distances : Bool
     distances = eqb (record_distance F) (20 * record_count F) && eqb (end_distance F) (20 * record_count F + 4 * string_count F)
 
     distance_one : record_distance F ≡ 20 * record_count F
-    distance_one = eqb-true (record_distance F) _ (first (eqb (record_distance F) (20 * record_count F)) _ (first distances _ touch))
+    distance_one = eqb-true (record_distance F) _ ((and_parts (eqb (record_distance F) (20 * record_count F)) _ ((and_parts distances _ touch).0)).0)
 
     distance_two : end_distance F ≡ 20 * record_count F + 4 * string_count F
-    distance_two = eqb-true (end_distance F) _ (second (eqb (record_distance F) (20 * record_count F)) _ (first distances _ touch))
+    distance_two = eqb-true (end_distance F) _ ((and_parts (eqb (record_distance F) (20 * record_count F)) _ ((and_parts distances _ touch).0)).1)
 
     room : end_distance F ≤ trailer_at F
-    room = leb-true (end_distance F) (trailer_at F) (second distances _ touch)
+    room = leb-true (end_distance F) (trailer_at F) ((and_parts distances _ touch).1)
 
     pub areas_of : Areas F (layout_of F)
     areas_of =
+        let end : trailer_at F - end_distance F + 4 * string_count F + 4 * (5 * record_count F) ≡ trailer_at F = omega (arith, distance_two, room) in
         rw (found_law long)
         (record {
-          total = found_total (length F) (end_distance F) (string_count F) (record_count F) long distance_two room;
-          records = found_records (trailer_at F) (record_distance F) (end_distance F) (string_count F) (record_count F) distance_one distance_two room;
-          tail = rw (found_trailer (trailer_at F) (end_distance F) (string_count F) (record_count F) distance_two room) (five F (trailer_at F) ∙ rw (distance_one, distance_two, edition_one));
+          total = omega (arith, long, distance_two, room);
+          records = omega (arith, distance_one, distance_two, room);
+          tail = rw end (five F (trailer_at F) ∙ rw (distance_one, distance_two, edition_one));
         })
 
   -- and the other way round

@@ -18,17 +18,14 @@ use Rattle.script.specs.Rules.{parted, record_holds, root_holds}
 use Rattle.script.specs.Write.{row_of, rows_of_trees, is_script, are_words, all_fit}
 use Rattle.script_records.proofs.Trees.{forest_none, forest_more, span_le, span_pos}
 use Rattle.script.proofs.RecordLaws.{parted_none, parted_law}
+use Rattle.std.proofs.lemmas.Bool.{and_parts, and_from}
 
-pub both : {a b : Bool} → a ≡ true → b ≡ true → (a && b) ≡ true
-both p q = rw (p, q)
-
+-- one half of what the library's `and_parts` gives, for the proofs of other crates, which need one at a time
 pub first : (a b : Bool) → (a && b) ≡ true → a ≡ true
-first true b h = refl
-first false b h = h
+first a b h = (and_parts a b h).0
 
 pub second : (a b : Bool) → (a && b) ≡ true → b ≡ true
-second true b h = h
-second false b h = cc
+second a b h = (and_parts a b h).1
 
 -- a list stands in another from place p on
 pub record At {A : Type 0} (l : List A) (p : ℕ) (xs : List A) : Type 0 where
@@ -94,7 +91,7 @@ placed {f} {w} {kids} h =
       root = rw (rows_count f, rows_count kids) at (at_one no_row end);
     }
 
--- of three parts in a row, every place passes
+-- The library has no lemma of this shape: of three parts in a row, of which the last is one place, every place passes
 three : (t : ℕ → Bool) (p a b : ℕ) → ((i : ℕ) → i < a → t (p + i) ≡ true) → ((i : ℕ) → i < b → t (p + a + i) ≡ true) → t (p + a + b) ≡ true
     → (i : ℕ) → i < a + suc b → t (p + i) ≡ true
 three t p a b f g h i l = by (ltb i a) refl (ltb i (a + b)) refl
@@ -146,11 +143,11 @@ module _ (rs : List Row) where
   rows_hold m none p h k i u = absurd (omega arith)
   rows_hold m (more f w kids) p h k i u =
       let l = placed h in
-      let q = second (all_fit m f) _ k in
-      let r = second (all_fit m kids) _ q in
-      three (record_holds m rs) p (count f) (count kids) (rows_hold m f p l.before (first (all_fit m f) _ k))
-      (rows_hold m kids (p + count f) l.inner (first (all_fit m kids) _ q))
-      (root_holds_lem m f w kids p l (first (fits m w kids) (are_words w) r)) i u
+      let q = (and_parts (all_fit m f) _ k).1 in
+      let r = (and_parts (all_fit m kids) _ q).1 in
+      three (record_holds m rs) p (count f) (count kids) (rows_hold m f p l.before ((and_parts (all_fit m f) _ k).0))
+      (rows_hold m kids (p + count f) l.inner ((and_parts (all_fit m kids) _ q).0))
+      (root_holds_lem m f w kids p l ((and_parts (fits m w kids) (are_words w) r).0)) i u
 
   pub root_written : (t : Forest Words) → At rs 0 (rows_of_trees t) → is_script t ≡ true → root_holds rs (count t) ≡ true
   unfolding is_script count root_holds
@@ -191,19 +188,19 @@ module _ (m : ℕ) (rs : List Row) (i : ℕ) (h : record_holds m rs i ≡ true) 
   held = h
 
   sizes_held : sizes ≡ true
-  sizes_held = first sizes _ (first (sizes && parted rs i ((row_in rs i).size - 1)) _ held)
+  sizes_held = (and_parts sizes _ ((and_parts (sizes && parted rs i ((row_in rs i).size - 1)) _ held).0)).0
 
   pub held_some : 1 ≤ (row_in rs i).size
-  held_some = leb-true 1 (row_in rs i).size (first (leb 1 (row_in rs i).size) _ sizes_held)
+  held_some = leb-true 1 (row_in rs i).size ((and_parts (leb 1 (row_in rs i).size) _ sizes_held).0)
 
   pub held_inside : (row_in rs i).size ≤ i + 1
-  held_inside = leb-true (row_in rs i).size (i + 1) (second (leb 1 (row_in rs i).size) _ sizes_held)
+  held_inside = leb-true (row_in rs i).size (i + 1) ((and_parts (leb 1 (row_in rs i).size) _ sizes_held).1)
 
   pub held_parted : parted rs i ((row_in rs i).size - 1) ≡ true
-  held_parted = second sizes _ (first (sizes && parted rs i ((row_in rs i).size - 1)) _ held)
+  held_parted = (and_parts sizes _ ((and_parts (sizes && parted rs i ((row_in rs i).size - 1)) _ held).0)).1
 
   pub held_fits : fits m (words_of (row_in rs i)) (children_of rs i) ≡ true
-  held_fits = second (sizes && parted rs i ((row_in rs i).size - 1)) _ held
+  held_fits = (and_parts (sizes && parted rs i ((row_in rs i).size - 1)) _ held).1
 
 -- the last tree of n records from record p on: it has inner records below its root, and before records before it
 record Cut (rs : List Row) (p n : ℕ) : Type 0 where
@@ -213,21 +210,16 @@ record Cut (rs : List Row) (p n : ℕ) : Type 0 where
   size : (row_in rs (p + before + inner)).size ≡ suc inner
   sizes : parted rs (p + before) before ≡ true
 
-split_sum : (n s : ℕ) → 1 ≤ s → s ≤ n → n ≡ n - s + suc (s - 1)
-split_sum n s h k = omega arith
-
-split_place : (p n s : ℕ) → 1 ≤ s → s ≤ n → p + (n - s) + (s - 1) ≡ p + n - 1
-split_place p n s h k = omega arith
-
 cut : (rs : List Row) (p n : ℕ) → 0 < n → parted rs (p + n) n ≡ true → Cut rs p n
 cut rs p n some_left h =
     let s : ℕ = (row_in rs (p + n - 1)).size in
     let law = sym (parted_law rs (p + n) n some_left) ∙ h in
-    let tests = first (leb 1 s && leb s n) _ law in
-    let low : 1 ≤ s = leb-true 1 s (first (leb 1 s) _ tests) in
-    let high : s ≤ n = leb-true s n (second (leb 1 s) _ tests) in
-    let sum : n ≡ n - s + suc (s - 1) = split_sum n s low high in
-    let size : (row_in rs (p + (n - s) + (s - 1))).size ≡ suc (s - 1) = rw (split_place p n s low high) (omega arith) in
+    let tests = (and_parts (leb 1 s && leb s n) _ law).0 in
+    let low : 1 ≤ s = leb-true 1 s ((and_parts (leb 1 s) _ tests).0) in
+    let high : s ≤ n = leb-true s n ((and_parts (leb 1 s) _ tests).1) in
+    let sum : n ≡ n - s + suc (s - 1) = omega arith in
+    let place : p + (n - s) + (s - 1) ≡ p + n - 1 = omega arith in
+    let size : (row_in rs (p + (n - s) + (s - 1))).size ≡ suc (s - 1) = rw place (omega arith) in
     record { before = n - s; inner = s - 1; sum = sum; size = size; sizes = sym (parted_step rs p (n - s) (s - 1) size) ∙ ap (λ (x : ℕ). parted rs (p + x) x) (sym sum) ∙ h }
 
 same_row : (r : Row) (n : ℕ) → r.size ≡ n → row_of (words_of r) n ≡ r
@@ -290,7 +282,7 @@ module _ (m : ℕ) (rs : List Row) (N : ℕ) (all : (i : ℕ) → i < N → reco
     unfolding all_fit
     fits_step p a b l size f g =
         let fit = held_fits m rs (p + a + b) (all (p + a + b) (omega arith)) in
-        rw (forest_step rs p a b size) (both f (both g (both (rw (size, sub-one) at fit) (words (p + a + b)))))
+        rw (forest_step rs p a b size) (and_from _ _ f (and_from _ _ g (and_from _ _ (rw (size, sub-one) at fit) (words (p + a + b)))))
 
     pub fits_part : (n p : ℕ) → p + n ≤ N → parted rs (p + n) n ≡ true → all_fit m (forest rs (p + n) n) ≡ true
     unfolding all_fit

@@ -1,4 +1,5 @@
-// What a record of each kind holds: its words and its children.
+// What a record of each kind holds: its words and its children. A table of forms: the arms are values, which `words` and `plain` write shortly, and no steps; and
+// where a word of the file says which, they are that word's numbers. Constants, unary operators and loops each have a function, since their words say it otherwise.
 ghost use Rattle.std.specs.Prelude.{◌≡◌, get_or};
 ghost use Rattle.script_records.specs.Kind.{number_of};
 ghost use Rattle.script_records.specs.Layout.{words_of};

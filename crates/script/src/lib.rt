@@ -14,6 +14,7 @@ pub mod forms;
 mod record_rules;
 mod rules;
 
+// That the layout is the file's is a clause here, and no field of ScriptFile: what that reads holds of any layout, and says so.
 #[tactic(auto, unfolding(crate::specs::Rules::rules_hold))]
 fn rules_hold(script: &ScriptFile) -> bool
     requires { script.now.layout ≡ layout_of script.now.bytes.now }

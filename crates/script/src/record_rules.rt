@@ -11,17 +11,54 @@ use script_records::kind::Kind;
 use script_records::layout::{Row, ScriptFile};
 use script_records::part::{Part, Tree};
 
+// The subtrees of a part from the last to the first, in a file of any content. Those who ask have a file and one of its many parts, so the two come apart.
+// The file is lent, so what is left is a place in it.
+#[derive(Clone, Copy)]
+struct Siblings<'a> {
+    script: ScriptFile<'a>,
+    part: Part,
+}
+
+impl Iterator for Siblings<'_> {
+    ghost use Rattle.std.specs.Iterator.{at_most};
+    ghost use Rattle.script.specs.Siblings.{GivesLast};
+
+    type Item = Tree;
+
+    ghost next_gives = { GivesLast };
+
+    ghost remaining = { λ s. at_most s.part.n };
+
+    // What is left is a number of records: with none there is no subtree, and nothing to take off.
+    fn next(&mut self) -> Option<Tree> {
+        if self.part.n == 0 {
+            return None;
+        }
+        let tree = self.script.last_tree(self.part);
+        self.part = tree.before;
+        Some(tree)
+    }
+}
+
+impl<'a> Siblings<'a> {
+    fn new(script: &ScriptFile<'a>, part: Part) -> Siblings<'a>
+        ensures { result ≡ record { script = script.now; part = part } }
+    {
+        Siblings {
+            script: *script,
+            part,
+        }
+    }
+}
+
 // Every subtree of the part is of the class.
 pub fn all_of(script: &ScriptFile, p: Part, class: Class) -> bool
     ensures { result ≡ all_of class (trees_in (rows_of script.now.bytes.now script.now.layout) p) }
 {
-    let mut part = p;
-    while part.n != 0 {
-        let t = script.last_tree(part);
-        if !class.has(t.row.kind) {
+    for tree in Siblings::new(script, p) {
+        if !class.has(tree.row.kind) {
             return false;
         }
-        part = t.before;
     }
     true
 }
@@ -30,16 +67,12 @@ pub fn all_of(script: &ScriptFile, p: Part, class: Class) -> bool
 fn count_siblings(script: &ScriptFile, p: Part) -> Option<usize>
     ensures { result ≡ siblings_of (rows_of script.now.bytes.now script.now.layout) p }
 {
-    let mut part = p;
     let mut count: usize = 0;
-    while part.n != 0 {
-        let t = script.last_tree(part);
-        let size = t.row.size as usize;
-        if size == 0 || part.n < size {
+    for tree in Siblings::new(script, p) {
+        if tree.row.size as usize != tree.children.n + 1 {
             return None;
         }
         count += 1;
-        part = t.before;
     }
     Some(count)
 }
@@ -62,7 +95,8 @@ fn is_sort(script: &ScriptFile, t: Tree, sort: Sort) -> bool
     }
 }
 
-// As many children as sorts, each of its sort.
+// As many children as sorts, each of its sort. Two rows are walked, and both have to end at once, which `zip` does not tell. What is left of the part counts its
+// records: 0 is the end, and no lack of a count.
 fn children_match(script: &ScriptFile, p: Part, sorts: &[Sort]) -> bool
     ensures { result ≡ matches (reverse sorts.now) (trees_in (rows_of script.now.bytes.now script.now.layout) p) }
 {
@@ -98,7 +132,7 @@ fn is_counted(r: Row, count: usize) -> bool
     r.b == 0 && r.c == 0 && count == r.a as usize
 }
 
-// The record's words and children have its kind's form; it has so many children.
+// The record's words and children have its kind's form; it has so many children. Two of the four answers are tests of their own, so a `match` gives them.
 fn form_fits(script: &ScriptFile, r: Row, p: Part, count: usize) -> bool
     requires { count ≡ trees (trees_in (rows_of script.now.bytes.now script.now.layout) p) }
     ensures { result ≡ fits script.now.layout.strings (words_of r) (trees_in (rows_of script.now.bytes.now script.now.layout) p) }

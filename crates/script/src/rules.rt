@@ -1,4 +1,5 @@
-// The rules of the whole file, one function for each.
+// The rules of the whole file, one function for each. Most go over records or strings in a `for` of three lines; as one function over a closure each would still
+// be a range and a test.
 ghost use Rattle.std.specs.Prelude.{◌≡◌, ltb};
 ghost use Rattle.hir.specs.Tree.{depth};
 ghost use Rattle.script_records.specs.Layout.{rows_of, strings_of};
@@ -71,7 +72,7 @@ pub fn kinds_supported(script: &ScriptFile) -> bool
 }
 
 // The tree is deeper than 128. The walk goes from the last record to the first and keeps where the subtree of each open ancestor starts,
-// below them 0 for the whole file.
+// below them 0 for the whole file. It goes on while one is open, and a record is passed only in some of the turns: no `for` over the records.
 pub fn too_deep(script: &ScriptFile) -> bool
     ensures { result ≡ ltb max_depth (depth (tree_in script.now.bytes.now script.now.layout)) }
 {

@@ -1,20 +1,16 @@
 -- The areas of a script file: what each function of `layout` gives, way by way.
 use Prim.Native.Nat.{ℕ, zero, suc, ◌+◌, ◌-◌, ◌*◌, ◌≤◌, ◌<◌, min, max}
 use mathlib.Core.Path.{◌≡◌, refl, sym, ap}
-use mathlib.Core.List.{List, [], ◌∷◌}
+use mathlib.Core.List.{List}
 use native.Mathlib.Omega.{arith}
 use native.Mathlib.Numerals.{sub-one}
 use mathlib.Core.Bool.{true}
 use borrow.Author.Tests.{ne_eqb, le-leb, lt-leb}
 use lib.ListN.{length, take, drop, length-drop, get_or-eq_default}
 use Rattle.std.proofs.lemmas.List.{take_min, drop_min}
-use Rattle.std.specs.Int.{w32, from_le_bytes}
 use Rattle.script_records.specs.declared.layout.Layout.{Layout}
 use Rattle.script_records.specs.declared.layout.Row.{Row}
 use Rattle.script_records.specs.Layout.{word_at, supported, layout_of, end_at, start_at, string_at, row_at, rows_from, rows_of, row_in, no_row}
-
-pub four_bytes : (a b c d : ℕ) → from_le_bytes w32 (a ∷ b ∷ c ∷ d ∷ []) ≡ a + 256 * (b + 256 * (c + 256 * d))
-four_bytes a b c d = omega arith
 
 -- what `default` gives
 row_of_zeros : {k a b c n : ℕ} → k ≡ 0 → a ≡ 0 → b ≡ 0 → c ≡ 0 → n ≡ 0 → ◌≡◌ {A = Row} (record { kind = k; a = a; b = b; c = c; size = n }) no_row

@@ -1,4 +1,5 @@
--- What `get` of a table gives, once copied.
+-- What `get` of a table gives, once copied. The library has no lemma of this shape: its own are of `slice_get`, by value, and not of the reference that `get`
+-- gives, nor of an `Option` in an `Option`.
 use Rattle.std.proofs.Common.{◌≡◌, ℕ, get_or, List, sym, refl, ◌∙◌}
 use Rattle.std.specs.Prelude.{Option, Some, None, unwrap_or, option_copied}
 use Rattle.std.specs.Option.{option_flatten}

@@ -2,7 +2,8 @@
 ghost use Rattle.std.specs.Prelude.{◌≡◌};
 ghost use Rattle.script_records.specs.Kind.{kind_from};
 
-// Document 01's kinds: statements from 0, expressions from 32, and from 96 what stands between them.
+// Document 01's kinds: statements from 0, expressions from 32, and from 96 what stands between them. Absent is a kind like the others: that of the record that
+// stands for a child that is not there.
 #[derive(Clone, Copy, Debug, PartialEq, Eq)]
 pub enum Kind {
     Declare,

@@ -2,7 +2,8 @@
 ghost use Rattle.std.specs.Prelude.{◌≡◌, ◌&&◌, ◌+◌, ◌-◌, ◌<◌, ◌≤◌, length};
 ghost use Rattle.script_records.specs.Layout.{word_at, has_trailer, areas_touch, layout_of, end_at, start_at, string_at, rows_of, row_in, HasRow};
 
-// Byte positions of the first record and of the first end offset, and how many records and strings there are.
+// Byte positions of the first record and of the first end offset, and how many records and strings there are: the caller lends the file as one slice, and its
+// trailer says where the areas are.
 #[derive(Clone, Copy, Default)]
 pub struct Layout {
     pub records: usize,
@@ -18,7 +19,7 @@ pub struct ScriptFile<'a> {
     pub layout: Layout,
 }
 
-// A record: its five words.
+// A record: its five words, as they stand in a file of any content. `Kind::try_from` says whether the first is a kind.
 #[derive(Clone, Copy, Default)]
 pub struct Row {
     pub kind: u32,
@@ -28,7 +29,9 @@ pub struct Row {
     pub size: u32,
 }
 
-#[tactic(auto, using(crate::proofs::LayoutLaws::four_bytes), unfolding(crate::specs::Layout::word_at))]
+// Four bytes at a position that lies in the file: a line over the library's `from_le_bytes`, as `constants::word` is for its hashes. `record_reader` takes the bytes
+// of its numbers off the front of a slice, and may find too few.
+#[tactic(auto, unfolding(crate::specs::Layout::word_at))]
 fn word(file: &[u8], at: usize) -> u32
     requires { at + 4 ≤ length file.now }
     ensures { result ≡ word_at file.now at }
@@ -87,6 +90,8 @@ impl<'a> ScriptFile<'a> {
         }
     }
 
+    // Each of the methods over a record or a string asks for it by its number, and for nothing more.
+
     // Record i, where it lies in the file.
     #[tactic(auto, using(crate::proofs::LayoutLaws::row_whole))]
     pub fn known_row(&self, i: usize) -> Row
@@ -117,7 +122,7 @@ impl<'a> ScriptFile<'a> {
         self.known_row(i)
     }
 
-    // Where string i ends, and 0 where its end offset does not lie in the file.
+    // Where string i ends, and 0 where its end offset does not lie in the file: so string i is empty there, and `start_at` and `string` need no case for it.
     #[tactic(auto, using(crate::proofs::LayoutLaws::end_short, crate::proofs::LayoutLaws::end_whole))]
     pub fn end_at(&self, i: usize) -> usize
         ensures { result ≡ end_at self.now.bytes.now self.now.layout i }
@@ -129,6 +134,7 @@ impl<'a> ScriptFile<'a> {
         word(self.bytes, base + 4 * i) as usize
     }
 
+    // As the start of a list of the list slice, which its own end table says: the two read tables of different slices.
     pub fn start_at(&self, i: usize) -> usize
         ensures { result ≡ start_at self.now.bytes.now self.now.layout i }
     {

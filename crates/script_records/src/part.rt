@@ -5,14 +5,15 @@ ghost use Rattle.script_records.specs.Parts.{last_tree};
 
 use crate::layout::{Row, ScriptFile};
 
-// The n records that end before record `end`.
+// The n records that end before record `end`. The file is lent, and memory is fixed: a record's children stand before it, and are not moved into a tree.
 #[derive(Clone, Copy)]
 pub struct Part {
     pub end: usize,
     pub n: usize,
 }
 
-// The last subtree of a part: its record, its children, and the subtrees before it.
+// The last subtree of a part: its record, its children, and the subtrees before it. Here a record is its words, since the rules of a file are checked before it is
+// known that each has a kind; `tree::Node` has the decoded record of an accepted file.
 #[derive(Clone, Copy)]
 pub struct Tree {
     pub row: Row,
@@ -43,7 +44,7 @@ impl ScriptFile<'_> {
     {
         let at = p.end.saturating_sub(1);
         let row = self.row_at(at);
-        // Most trees have one to three records. A branch for each lets the processor go on before the size is read: without them a walk over records
+        // A size is cut to what the part holds, as `tree::Trees` need not: there the file is accepted. Most trees have one to three records. A branch for each lets the processor go on before the size is read: without them a walk over records
         // without children takes half as long again.
         if row.size == 1 {
             if 1 <= p.n {

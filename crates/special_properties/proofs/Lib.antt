@@ -1,4 +1,2 @@
-pub mod Table
-pub mod Same
 pub mod Search
 pub mod Laws

@@ -1,36 +1,60 @@
 -- The search for the first name that agrees.
 -- Assumes nothing.
-use mathlib.Core.Path.{◌≡◌, refl, sym, ◌∙◌}
-use mathlib.Core.Bool.{true, false, cond}
-use mathlib.Core.List.{List, []}
-use Rattle.std.specs.Prelude.{Some, None}
-use Prim.Native.Nat.{ℕ, suc, ◌+◌, ◌≤◌, ◌<◌}
+use mathlib.Core.Path.{◌≡◌, refl, ◌∙◌}
+use mathlib.Core.Bool.{Bool, cond}
+use mathlib.Core.List.{List, [], ◌∷◌, map}
+use Prim.Native.Nat.{ℕ, suc, ◌<◌}
 use native.Mathlib.Numerals.{add-one}
 use native.Mathlib.Omega.{arith}
-use lib.ListN.{length, get_or, drop, drop_of_length-le}
-use lib.Seq.{drop-cons}
-use Rattle.special_properties.specs.SpecialProperties.{names, same_spelling, first_from, get_special_property}
+use denote.Ref.{Bor}
+use Rattle.std.specs.Bool.{Decides}
+use lib.Dec.{ltb}
+use borrow.Author.Tests.{ne_eqb}
+use lib.ListN.{length, get_or}
+use Rattle.std.specs.Prelude.{Option, Some, None}
+use Rattle.std.specs.List.{position_from, position_or_len}
+use Rattle.std.proofs.lemmas.Iterator.Adapters.{position_from-zero}
+use Rattle.std.specs.Char as letters
+use Rattle.std.proofs.lemmas.Bool.Decides.{nat_tests, Decides-eqb, Decides-and, Decides-like, same_from_decides}
+use Rattle.special_properties.specs.SpecialProperties.{same, same_spelling, to_ascii_lowercase, names, first_from, get_special_property}
 
--- none of the first i names agrees with s: the search goes on from i
-pub record Passed (s : List ℕ) (i : ℕ) : Type 0 where
-  pub within : i ≤ length names
-  pub rest : first_from i (drop i names) s ≡ get_special_property s
+searched : (s : List ℕ) (i : ℕ) (ps : List (Bor (List ℕ))) → position_from (λ p. same_spelling s p.now) i ps ≡ first_from i (map (λ p. 95 ∷ p.now) ps) (95 ∷ s)
+unfolding first_from same to_ascii_lowercase
+searched s i [] = refl
+searched s i (p ∷ ps) = rw add-one (simp (searched s (suc i) ps))
 
-pub passed_none : (s : List ℕ) → Passed s 0
+-- the library's search over a table of names without their underscores is the definition's
+pub found : (s : List ℕ) (ps : List (Bor (List ℕ))) (r : Option ℕ) → let t = (λ (p : Bor (List ℕ)). same_spelling s p.now) in
+    r ≡ cond (ltb (position_or_len t ps) (length ps)) (Some (position_or_len t ps)) None → map (λ p. 95 ∷ p.now) ps ≡ names → r ≡ get_special_property (95 ∷ s)
 unfolding get_special_property
-passed_none s = record { within = omega arith; rest = refl }
+found s ps r e n = e ∙ position_from-zero (λ p. same_spelling s p.now) ps ∙ searched s 0 ps ∙ simp n
 
-module _ {s : List ℕ} {i : ℕ} (v : Passed s i) where
-  name : i < length names → first_from i (drop i names) s ≡ cond (same_spelling s (get_or names i [])) (Some i) (first_from (suc i) (drop (suc i) names) s)
-  unfolding first_from
-  name h = rw (drop-cons names i [] h)
+-- only the underscore is folded to an underscore
+folds_other : (b : ℕ) → (b ≡ 95 → ⊥) → to_ascii_lowercase b ≡ 95 → ⊥
+unfolding to_ascii_lowercase
+folds_other b h e = grind (arith, nat_tests)
 
-  pub passed_more : i < length names → same_spelling s (get_or names i []) ≡ false → Passed s (i + 1)
-  passed_more h e = record { within = omega arith; rest = rw add-one (sym (name h ∙ simp e) ∙ v.rest) }
+-- each name begins with an underscore
+pub none_other : (s : List ℕ) → (0 < length s → get_or s 0 0 ≡ 95 → ⊥) → None ≡ get_special_property s
+unfolding get_special_property first_from names same to_ascii_lowercase
+none_other [] h = refl
+none_other (b ∷ s) h = simp (ne_eqb (to_ascii_lowercase b) (to_ascii_lowercase 95) (folds_other b (h (omega arith))))
 
-  pub passed_found : i < length names → same_spelling s (get_or names i []) ≡ true → Some i ≡ get_special_property s
-  passed_found h e = sym (name h ∙ simp e) ∙ v.rest
+-- the library's folding of letters is the definition's
+folded : (b : ℕ) → letters.to_ascii_lowercase b ≡ to_ascii_lowercase b
+unfolding to_ascii_lowercase
+folded b = grind (arith, nat_tests)
 
-  pub passed_all : length names ≤ i → None ≡ get_special_property s
-  unfolding first_from
-  passed_all h = sym (rw (drop_of_length-le names {i = i} h)) ∙ v.rest
+abbrev lowered : List ℕ → List ℕ
+lowered = map letters.to_ascii_lowercase
+
+spelling : (a b : List ℕ) → Decides (same_spelling a b) (lowered a ≡ lowered b)
+unfolding same
+spelling [] [] = (λ _. refl, λ _. refl)
+spelling [] (y ∷ b) = (λ e. cc, λ e. cc)
+spelling (x ∷ a) [] = (λ e. cc, λ e. cc)
+spelling (x ∷ a) (y ∷ b) = rw (← folded x, ← folded y) (Decides-like _ (λ e. cc (e.0, e.1)) (λ e. (cc e, cc e)) (Decides-and _ _ (Decides-eqb (letters.to_ascii_lowercase x) (letters.to_ascii_lowercase y)) (spelling a b)))
+
+-- the library's comparison that ignores ASCII case is the definition's
+pub spelled : (a b : List ℕ) (r : Bool) → Decides r (lowered a ≡ lowered b) → r ≡ same_spelling a b
+spelled a b r d = same_from_decides _ _ d (spelling a b)

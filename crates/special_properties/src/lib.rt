@@ -1,52 +1,62 @@
 #![tactic(auto)]
 
-ghost use Rattle.std.specs.Prelude.{◌≡◌};
-ghost use Rattle.special_properties.specs.SpecialProperties.{get_special_property, same_bytes, null, undefined};
+ghost use Rattle.std.specs.Prelude.{◌≡◌, ◌∷◌};
+ghost use Rattle.special_properties.specs.SpecialProperties.{get_special_property, same_spelling, same_bytes, null, undefined};
 
-// The properties' names by number.
+// The properties' names by number, without the underscore that each begins with.
 static NAMES: [&[u8]; 22] = [
-    b"_x",
-    b"_y",
-    b"_xscale",
-    b"_yscale",
-    b"_currentframe",
-    b"_totalframes",
-    b"_alpha",
-    b"_visible",
-    b"_width",
-    b"_height",
-    b"_rotation",
-    b"_target",
-    b"_framesloaded",
-    b"_name",
-    b"_droptarget",
-    b"_url",
-    b"_highquality",
-    b"_focusrect",
-    b"_soundbuftime",
-    b"_quality",
-    b"_xmouse",
-    b"_ymouse",
+    b"x",
+    b"y",
+    b"xscale",
+    b"yscale",
+    b"currentframe",
+    b"totalframes",
+    b"alpha",
+    b"visible",
+    b"width",
+    b"height",
+    b"rotation",
+    b"target",
+    b"framesloaded",
+    b"name",
+    b"droptarget",
+    b"url",
+    b"highquality",
+    b"focusrect",
+    b"soundbuftime",
+    b"quality",
+    b"xmouse",
+    b"ymouse",
 ];
+
+// ASCII case ignored.
+fn same_spelling(a: &[u8], b: &[u8]) -> bool
+    ensures { result ≡ same_spelling a.now b.now }
+{
+    a.eq_ignore_ascii_case(b)
+}
+
+// The number of the property whose name is an underscore and these letters.
+fn number_of(letters: &[u8]) -> Option<u32>
+    ensures { result ≡ get_special_property (95 ∷ letters.now) }
+{
+    let i = NAMES
+        .iter()
+        .position(|property| same_spelling(letters, property))?;
+    Some(i as u32)
+}
 
 // The number of the first property whose name agrees, ASCII case ignored.
 pub fn get_special_property(name: &[u8]) -> Option<u32>
     ensures { result ≡ get_special_property name.now }
 {
-    'names: for (i, property) in NAMES.iter().enumerate() {
-        if property.len() != name.len() {
-            continue;
-        }
-        for (a, b) in name.iter().zip(*property) {
-            if !a.eq_ignore_ascii_case(b) {
-                continue 'names;
-            }
-        }
-        return Some(i as u32);
+    match name {
+        [first, letters @ ..] if *first == b'_' => number_of(letters),
+        _ => None,
     }
-    None
 }
 
+// The library's `==`, promised in the words that the definitions of lowering use: a caller that wrote `==` would have to show that the two agree.
 #[tactic(auto, using(crate::proofs::Laws::bytes_compared))]
 pub fn same_bytes(a: &[u8], b: &[u8]) -> bool
     ensures { result ≡ same_bytes a.now b.now }
@@ -54,6 +64,7 @@ pub fn same_bytes(a: &[u8], b: &[u8]) -> bool
     a == b
 }
 
+// A function for each fixed name, of one call: with the name as an argument a caller would write the comparison itself.
 pub fn is_null(name: &[u8]) -> bool
     ensures { result ≡ same_bytes name.now null }
 {

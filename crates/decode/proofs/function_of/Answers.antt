@@ -1,5 +1,4 @@
-use Rattle.std.proofs.Common.{◌<◌, ◌≢◌, length, arith, below_more, length-set, get_or-set_other, get_or-set_same}
-use Rattle.std.proofs.lemmas.Nat.Bits.{shr_and_one}
+use Rattle.std.proofs.Common.{arith}
 use Rattle.decode.specs.Decode.{function_of}
 use Rattle.decode.proofs.DecodeLaws.{name_found, marks_listed}
 use Rattle.decode.proofs.function_of.Goals as goal

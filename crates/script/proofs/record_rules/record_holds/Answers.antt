@@ -1,6 +1,6 @@
 -- `record_holds` meets its contract.
 use Rattle.script_records.specs.Layout.{rows_of}
-use Rattle.script.proofs.RecordLaws.{record_large, record_broken, record_count_lem, record_form}
+use Rattle.script.proofs.RecordLaws.{record_large, record_broken, record_form}
 use Rattle.std.proofs.Common.{inl, inr}
 use Rattle.script.proofs.record_rules.record_holds.Goals as goal
 use Rattle.script.proofs.record_rules.record_holds.Goals.{then-size-eq0-via-then-size-eq0, then-size-eq0-via-else-size-eq0+then-i-size}

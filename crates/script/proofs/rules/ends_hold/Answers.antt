@@ -2,7 +2,7 @@
 use mathlib.Core.Path.{refl}
 use native.Mathlib.Omega.{arith}
 use borrow.Author.Tests.{le-leb, lt-leb}
-use Rattle.script.proofs.RuleLaws.{upto_zero, upto_next, upto_not, upto_all}
+use Rattle.script.proofs.RuleLaws.{upto_zero, upto_next, upto_not}
 use Rattle.script.proofs.rules.ends_hold.Invariants.{test}
 use Rattle.script.proofs.rules.ends_hold.Goals as goal
 

@@ -2,7 +2,7 @@
 use native.Mathlib.Omega.{arith}
 use Rattle.script_records.specs.Layout.{rows_of}
 use Rattle.script.specs.Rules.{record_holds}
-use Rattle.script.proofs.RuleLaws.{upto_zero, upto_next, upto_not, upto_all}
+use Rattle.script.proofs.RuleLaws.{upto_zero, upto_next, upto_not}
 use Rattle.script.proofs.rules.records_hold.Goals as goal
 
 pub loop-i-init : goal.loop-i-init
