@@ -34,6 +34,7 @@ use operators::shape::Shape;
 use pcode::{Label, Op, PushValue};
 use script_records::kind::Kind;
 use script_records::layout::ScriptFile;
+use script_records::part::Part;
 use slice_words::NO_STRING;
 use tree::{Counts, Element, Trees};
 
@@ -68,41 +69,32 @@ pub fn read_constant(context: &mut ScriptContext, c: ConstantKind)
     }
 }
 
-// The arguments without the Voids among the last, which generate nothing.
-fn without_voids<'a>(t: &Trees<'a>) -> Trees<'a>
-    ensures script { result.script ≡ t.now.script }
-    ensures unchanged { Unchanged (file_of t.now) t.now.script.layout t.now.part result.part }
-{
-    let mut left = *t;
-    while left.kind() == Kind::Void as u32 {
-        left = left.rest();
-    }
-    left
-}
-
-// Arguments run from the last to the first: the constants among the last of them are pushed here, without a call for each expression. What is left
-// is still to be generated.
+// Arguments run from the last to the first: the constants among the last of them are pushed here, without a call for each expression, and Voids generate
+// nothing. What is left is still to be generated.
 pub fn push_constants<'a>(t: &Trees<'a>, context: &mut ScriptContext) -> Trees<'a>
     requires { context.old.script ≡ t.now.script }
     ensures { Pushes t.now context.old result context.new }
 {
-    let mut left = without_voids(t);
-    while !left.is_empty() {
+    for tree in *t {
         if context.builder.state.refused.is_some() {
-            return left;
+            return tree;
         }
-        let tree = left.script.last_tree(left.part);
-        if tree.row.kind != Kind::Constant as u32 {
-            return left;
+        let row = tree.script.last_tree(tree.part).row;
+        if row.kind == Kind::Void as u32 {
+            continue;
         }
-        read_constant(context, constant(tree.row));
-        let before = Trees {
-            script: t.script,
-            part: tree.before,
-        };
-        left = without_voids(&before);
+        if row.kind != Kind::Constant as u32 {
+            return tree;
+        }
+        read_constant(context, constant(row));
     }
-    left
+    Trees {
+        script: t.script,
+        part: Part {
+            end: t.part.end - t.part.n,
+            n: 0,
+        },
+    }
 }
 
 // Break and Continue without a label emit nothing.
@@ -276,10 +268,10 @@ pub fn leaves_value(script: &ScriptFile, name: u32) -> bool
     ensures { let F = script.now.bytes.now in
         (z : ℕ) → moved (name_delta (cond (eqb name 0) [] (string_at F (layout_of F) (name - 1)))) z ≡ z + from_bool result }
 {
-    if name == 0 {
-        return true;
+    match name.checked_sub(1) {
+        Some(number) => script.string(number as usize).is_empty(),
+        None => true,
     }
-    script.string((name - 1) as usize).is_empty()
 }
 
 // The label of a switch's last Default, else its end.
@@ -305,11 +297,4 @@ pub fn leaves_none(affix: Affix, discard: bool) -> bool
     ensures { result ≡ (discard || not (statement.is_prefix affix)) }
 {
     discard || matches!(affix, Affix::Postfix)
-}
-
-pub fn word_of(n: usize) -> u32
-    requires { n < 65536 }
-    ensures { result ≡ n }
-{
-    n as u32
 }
