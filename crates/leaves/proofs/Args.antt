@@ -48,9 +48,6 @@ module _ {F : List ℕ} {l : Layout} {p : Part} {t : Node Part} (n : IsNode F l 
   unfolding resolved
   expr_at d e = expr_any d ∙ rw e
 
-pub some_left : {n : ℕ} → false ≡ eqb n 0 → n ≡ 0 → ⊥
-some_left {n} h = eqb-false n 0 (sym h)
-
 pub args_holds : (F : List ℕ) (l : Layout) (w : List ℕ) (p : Part) (b : BuilderState) → Within F l p → Fine b w → Args F l w p b w p b
 args_holds F l w p b i f = record { same = refl; fine = f; named = λ n. n; within = i; fewer = omega arith; list = refl }
 

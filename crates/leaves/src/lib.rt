@@ -38,7 +38,8 @@ use script_records::part::Part;
 use slice_words::NO_STRING;
 use tree::{Counts, Element, Trees};
 
-// An assignment whose value is discarded, or wanted.
+// An assignment whose value is discarded, or wanted. The flag is a value that the callers were given: a closure for the step would be chosen by the same `if`, at
+// each of the calls.
 pub fn assign_value(builder: &mut CodeBuilder, discard: bool, access: Access)
     ensures { (F : List ℕ) → Runs F (statement.assign_value discard (access_of access)) builder.old tt builder.new }
 {
@@ -133,7 +134,7 @@ pub fn gen_target(context: &mut ScriptContext, target: EnumeratorTarget)
     }
 }
 
-// -2147483648 has no negative.
+// -2147483648 has no negative: `checked_neg` tells it.
 pub fn negate_integer(builder: &mut CodeBuilder, n: i32)
     ensures { (F : List ℕ) → Runs F (statement.negate_integer (unsigned n) (eqb (unsigned n) 0x8000_0000)) builder.old tt builder.new }
 {
@@ -158,6 +159,7 @@ pub fn frame_of(n: i32) -> u32
     n.cast_unsigned().saturating_sub(1) % 65536
 }
 
+// The flag is the record's own, and both callers have it as a value: without this function the `if` would stand in each.
 pub fn play_if(builder: &mut CodeBuilder, play: bool)
     ensures { (F : List ℕ) → Runs F (when play (steps.action Play)) builder.old tt builder.new }
 {
@@ -182,7 +184,8 @@ pub fn push_if(builder: &mut CodeBuilder, cases: u32)
     }
 }
 
-// An object field's key, a parameter's name; any other record has no name, which the list writes as this reference.
+// An object field's key, a parameter's name; any other record has no name, for which the words of a list have this reference. A function, since neither
+// Record nor u32 is of this crate, where their From could stand.
 pub fn name_of(root: Record) -> u32
     ensures { (F : List ℕ) (i : ℕ) → length F ≤ 1048576 → T (record_named F i root) → (text_in F result ≡ (param (rec_of F root)).name) × T (names_string F result) }
 {
@@ -250,6 +253,7 @@ pub fn has_hoisted(row: &Trees) -> bool
     false
 }
 
+// What counts a switch's labels and its cases: one `matches!` each, and a function over the variants that count would only wrap it.
 pub fn is_labelled(e: Element) -> bool
     ensures { from_bool result ≡ is_labelled (meant e) }
 {
@@ -262,7 +266,7 @@ pub fn is_case(e: Element) -> bool
     matches!(e, Element::Case)
 }
 
-// A function leaves a value if it has no name, or an empty one.
+// A function leaves a value if it has no name, or an empty one. In a script file the word of its name is 0 for none, and else one more than the string's number.
 pub fn leaves_value(script: &ScriptFile, name: u32) -> bool
     requires { script.now.layout ≡ layout_of script.now.bytes.now }
     ensures { let F = script.now.bytes.now in
@@ -286,7 +290,8 @@ pub fn default_label(end: u32, first: u32, n: Counts) -> u32
     }
 }
 
-// Whether the old value is left, and whether the new one is not.
+// Whether the old value is left, and whether the new one is not: one joins the two tests by `and`, the other by `or`, so that no constant or type tells them
+// apart. `==` in place of `matches!` would want a PartialEq of Affix for these two lines alone.
 pub fn keeps_old(affix: Affix, discard: bool) -> bool
     ensures { result ≡ (not discard && not (statement.is_prefix affix)) }
 {
