@@ -1,6 +1,5 @@
-use mathlib.Core.Path.{refl, sym, ◌∙◌}
+use mathlib.Core.Path.{refl, ◌∙◌}
 use native.Mathlib.Omega.{arith}
-use Rattle.tree.proofs.ByKind.{rest_made}
 use Rattle.builder.proofs.Runs.{same_list_then}
 use Rattle.leaves.proofs.Args.{args_holds, args_named, args_constant, args_void, args_none, before_all}
 use Rattle.leaves.proofs.push_constants.Goals as goal
