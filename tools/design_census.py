@@ -8,6 +8,7 @@
   python3 tools/design_census.py --crates   the same places, crate by crate
   python3 tools/design_census.py --left     the places without a reason in tools/design_kept, crate by crate
   python3 tools/design_census.py --kept     how many have one, and the reasons that no place or no source has
+  python3 tools/design_census.py --reasons  the places that have one, each with its reason, as tables
 
 It reads the text alone. A place is a line `crate/src/file.rt: item | what it is`.
 """
@@ -804,11 +805,29 @@ def print_kept(chosen):
             print(f'not in the source: {" | ".join(map(str, r))}')
 
 
+def print_reasons(chosen):
+    """The places of each point that have a reason, by the reason."""
+    all_reasons = list(reasons())
+    for n in chosen:
+        by = collections.OrderedDict()
+        for where, what in POINTS[n][1]():
+            r = reason_of(all_reasons, n, where, what)
+            if r and r[2] != 'n':
+                by.setdefault(r, []).append(f'{where}: {what}')
+        print(f'\n### Point {n}\n\n| Places | | Reason |\n|---|---|---|')
+        for r in sorted(by, key=lambda r: r[2]):
+            places = '<br>'.join(p.replace('|', '\\|') for p in by[r])
+            print(f'| {places} | {r[2]} | {r[4].replace("|", chr(92) + "|")} (`{r[3]}`) |')
+
+
 def main():
     args = sys.argv[1:]
     chosen = [int(a) for a in args if a.isdigit()] or list(POINTS)
     if '--kept' in args:
         print_kept(chosen)
+        return
+    if '--reasons' in args:
+        print_reasons(chosen)
         return
     all_reasons = list(reasons()) if '--left' in args else []
     if '--crates' in args or '--left' in args:
