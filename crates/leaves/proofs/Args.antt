@@ -4,9 +4,8 @@ use mathlib.Core.Path.{◌≡◌, refl, sym, ap, ◌∙◌}
 use mathlib.Core.Bool.{Bool, false}
 use mathlib.Core.List.{List}
 use native.Mathlib.Omega.{arith}
-use lib.Dec.{T, eqb}
+use lib.Dec.{T}
 use lib.ListN.{length}
-use borrow.Author.Tests.{eqb-false}
 use Rattle.std.specs.Prelude.{IsSome}
 use Rattle.hir.specs.declared.ConstantKind.{ConstantKind}
 use Rattle.hir.specs.declared.ExprKind.{ExprKind}
@@ -30,13 +29,13 @@ use Rattle.codegen_state.specs.View.{Held, held, after}
 use Rattle.codegen_state.specs.Does.{Fine, Does}
 use Rattle.codegen_state.proofs.Steps.{after_then, after_done, stays}
 use Rattle.tree.specs.declared.Node.{Node}
-use Rattle.tree.specs.Trees.{trees, rec_of, node_of, kind_at}
+use Rattle.tree.specs.Trees.{trees, rec_of, node_of}
 use Rattle.tree.specs.Within.{Within, IsNode, constant_named, meanings_at, kid_at}
 use Rattle.tree.proofs.Nodes.{is_node, node_made, trees_more, trees_none}
-use Rattle.tree.proofs.ByKind.{kind_made, rest_made}
+use Rattle.tree.proofs.ByKind.{kind_made}
 use Rattle.tree.proofs.Meanings.{kid_zero}
 use Rattle.rows.proofs.Passed.{void_root}
-use Rattle.leaves.specs.Args.{Args, Unchanged}
+use Rattle.leaves.specs.Args.{Args}
 use Rattle.leaves.proofs.Constants.{Reads}
 
 -- what a part's last tree generates as an expression
