@@ -1,5 +1,5 @@
 -- What a part's last tree means, and rows that are empty or not.
-use Prim.Native.Nat.{ℕ, ◌+◌, ◌-◌, ◌≤◌, ◌<◌}
+use Prim.Native.Nat.{ℕ, ◌+◌, ◌-◌, ◌*◌, ◌≤◌, ◌<◌}
 use mathlib.Core.Path.{◌≡◌, refl, sym, ap, ◌∙◌}
 use mathlib.Core.List.{List, []}
 use mathlib.Core.Bool.{Bool, true, false, cond, not, ◌&&◌, ◌||◌}
@@ -55,9 +55,11 @@ use Rattle.std.specs.Prelude.{Some, IfSome, option_map, unwrap_or}
 use Rattle.lowering.specs.Access.{Direct, ◌gives◌}
 use Rattle.operators.specs.Shapes.{root_shape, constant_literal, shape_literal, shape_in}
 use Rattle.operators.proofs.Shapes.{shape_named}
+use Rattle.constants.specs.declared.context.ScriptContext.{ScriptContext}
 use Rattle.builder.specs.Labels.{labels_of_forest, elements_from}
 use Rattle.rows.specs.Rows.{cases_of, conditional}
 use Rattle.leaves.proofs.Args.{expr_any, expr_at}
+use Rattle.statement.specs.Walk.{Walk}
 use Rattle.statement.proofs.Rows.{has_case_is, has_label_is, labels_is, cases_is, default_is}
 
 -- a record that is no expression and stands for none, and one that is no statement, generate nothing
@@ -130,6 +132,11 @@ module _ {F : List ℕ} {l : Layout} {p : Part} {t : Node Part} (n : IsNode F l 
 -- the children of a node that is there are fewer records
 pub kids_less : (t : Trees) (n : Node Trees) → parts_of n ≡ node_of (file_of t) t.script.layout t.part → live n.root ≡ 1 → n.children.part.n < t.part.n
 kids_less t n e h = let i = is_node _ _ _ t.within e in omega (arith, i.apart, i.real, h)
+
+-- a call for them, at any place of the order
+pub in_kids : {t : Trees} {c : ScriptContext} {room m : ℕ} (n : Node Trees) (own at : ℕ) → at < 8 → 8 * t.part.n + own ≡ m → Walk t c room → n.children.script ≡ t.script → parts_of n ≡ node_of (file_of t) t.script.layout t.part → live n.root ≡ 1 →
+    (8 * n.children.part.n + at < m) × Walk n.children c room
+in_kids {t} n own at h d w e q v = let less = kids_less t n q v in (omega (arith, d, h, less), record { script = w.script ∙ sym e; fits = omega (arith, w.fits, less) })
 
 pub value_live : {r : Record} → (r ≡ kind.Case) ⊎ ((s : ℕ) × (r ≡ kind.ObjectField s)) → live r ≡ 1
 value_live (inl e) = ap live e

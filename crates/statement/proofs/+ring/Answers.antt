@@ -24,7 +24,7 @@ use Rattle.access.proofs.Texts.{text_is}
 use Rattle.rows.specs.Rows.{loop_of}
 use Rattle.rows.proofs.Kept.{one_most}
 use Rattle.leaves.proofs.Args.{expr_at, args_again, args_stopped, args_done}
-use Rattle.statement.proofs.Laws.{rec_is, element_at, value_at, value_live, no_expr, statement_at, no_statement, untested, access_at, literal_of, none_at, labels_counted, labels_less, default_less, switching, no_labels, some_labels, function_at, function_size, literal_named, field_live, kids_less, number_less, plain_access, bit_is, rank_least, rank_most, rank_kept}
+use Rattle.statement.proofs.Laws.{rec_is, element_at, value_at, value_live, no_expr, statement_at, no_statement, untested, access_at, literal_of, none_at, labels_counted, labels_less, default_less, switching, no_labels, some_labels, function_at, function_size, literal_named, field_live, kids_less, in_kids, number_less, plain_access, bit_is, rank_least, rank_most, rank_kept}
 use Rattle.statement.proofs.Walks.{start, walked, acted, built, pushed, walks, walk}
 use Rattle.builder.proofs.Runs.{same_list_then, keeps_then, index_stays}
 use Rattle.statement.proofs.Lists.{pop_holds, pop_top, pop_inside, pop_fits, pop_below, pop_few, pop_again, pop_stopped, pop_done, element_few}
@@ -328,34 +328,34 @@ pub gen_expr-args-requires : goal.gen_expr-args-requires
 gen_expr-args-requires t c = (omega (arith, c.decreases, c.requires.fits, kids_less c.args.t.now c.node-node.result c.node-node.ensures.node (ap live c.in-Expr.is), c.list-es-in-InitArray.ensures.list.fewer), (walk start (c.requires.script ∙ sym (c.list-es-in-InitArray.ensures.script ∙ c.node-node.ensures.children)) (omega (arith, c.requires.fits, kids_less c.args.t.now c.node-node.result c.node-node.ensures.node (ap live c.in-Expr.is), c.list-es-in-InitArray.ensures.list.fewer)), c.width-n-in-InitArray.ensures))
 
 pub gen_expr-drag-requires : goal.gen_expr-drag-requires
-gen_expr-drag-requires t c = (omega (arith, c.decreases, c.requires.fits, kids_less c.args.t.now c.node-node.result c.node-node.ensures.node (ap live c.in-Expr.is)), walk start (c.requires.script ∙ sym c.node-node.ensures.children) (omega (arith, c.requires.fits, kids_less c.args.t.now c.node-node.result c.node-node.ensures.node (ap live c.in-Expr.is))))
+gen_expr-drag-requires t c = in_kids c.node-node.result 0 5 (omega arith) c.decreases c.requires c.node-node.ensures.children c.node-node.ensures.node (ap live c.in-Expr.is)
 
 pub gen_expr-each-requires : goal.gen_expr-each-requires
-gen_expr-each-requires t c = (omega (arith, c.decreases, c.requires.fits, kids_less c.args.t.now c.node-node.result c.node-node.ensures.node (ap live c.in-Expr.is)), (walk start (c.requires.script ∙ sym c.node-node.ensures.children) (omega (arith, c.requires.fits, kids_less c.args.t.now c.node-node.result c.node-node.ensures.node (ap live c.in-Expr.is))), omega (arith, c.requires.fits, kids_less c.args.t.now c.node-node.result c.node-node.ensures.node (ap live c.in-Expr.is), c.args.t.now.within.known, c.args.t.now.within.sound.few, c.args.t.now.within.inside)))
+gen_expr-each-requires t c = let i = in_kids c.node-node.result 0 3 (omega arith) c.decreases c.requires c.node-node.ensures.children c.node-node.ensures.node (ap live c.in-Expr.is) in (i.0, (i.1, omega (arith, i.1.fits, c.requires.fits, kids_less c.args.t.now c.node-node.result c.node-node.ensures.node (ap live c.in-Expr.is), c.args.t.now.within.known, c.args.t.now.within.sound.few, c.args.t.now.within.inside)))
 
 pub gen_expr-each-requires-in-Field : goal.gen_expr-each-requires-in-Field
-gen_expr-each-requires-in-Field t c = (omega (arith, c.decreases, c.requires.fits, kids_less c.args.t.now c.node-node.result c.node-node.ensures.node (ap live c.in-Expr.is)), (walk start (c.requires.script ∙ sym c.node-node.ensures.children) (omega (arith, c.requires.fits, kids_less c.args.t.now c.node-node.result c.node-node.ensures.node (ap live c.in-Expr.is))), omega (arith, c.requires.fits, kids_less c.args.t.now c.node-node.result c.node-node.ensures.node (ap live c.in-Expr.is), c.args.t.now.within.known, c.args.t.now.within.sound.few, c.args.t.now.within.inside)))
+gen_expr-each-requires-in-Field t c = let i = in_kids c.node-node.result 0 3 (omega arith) c.decreases c.requires c.node-node.ensures.children c.node-node.ensures.node (ap live c.in-Expr.is) in (i.0, (i.1, omega (arith, i.1.fits, c.requires.fits, kids_less c.args.t.now c.node-node.result c.node-node.ensures.node (ap live c.in-Expr.is), c.args.t.now.within.known, c.args.t.now.within.sound.few, c.args.t.now.within.inside)))
 
 pub gen_expr-each-requires-in-InitObject : goal.gen_expr-each-requires-in-InitObject
 gen_expr-each-requires-in-InitObject t c = (omega (arith, c.decreases, c.requires.fits, kids_less c.args.t.now c.node-node.result c.node-node.ensures.node (ap live c.in-Expr.is), c.list-es.ensures.list.fewer), (walk start (c.requires.script ∙ sym (c.list-es.ensures.script ∙ c.node-node.ensures.children)) (omega (arith, c.requires.fits, kids_less c.args.t.now c.node-node.result c.node-node.ensures.node (ap live c.in-Expr.is), c.list-es.ensures.list.fewer)), omega (arith, c.requires.fits, kids_less c.args.t.now c.node-node.result c.node-node.ensures.node (ap live c.in-Expr.is), c.list-es.ensures.list.fewer, c.args.t.now.within.known, c.args.t.now.within.sound.few, c.args.t.now.within.inside)))
 
 pub gen_expr-for_expr-access-requires : goal.gen_expr-for_expr-access-requires
-gen_expr-for_expr-access-requires t c = (omega (arith, c.decreases, c.requires.fits, kids_less c.args.t.now c.node-node.result c.node-node.ensures.node (ap live c.in-Expr.is)), walk start (c.requires.script ∙ sym c.node-node.ensures.children) (omega (arith, c.requires.fits, kids_less c.args.t.now c.node-node.result c.node-node.ensures.node (ap live c.in-Expr.is))))
+gen_expr-for_expr-access-requires t c = in_kids c.node-node.result 0 1 (omega arith) c.decreases c.requires c.node-node.ensures.children c.node-node.ensures.node (ap live c.in-Expr.is)
 
 pub gen_expr-gen_binary_op-requires : goal.gen_expr-gen_binary_op-requires
-gen_expr-gen_binary_op-requires t c = (omega (arith, c.decreases, c.requires.fits, kids_less c.args.t.now c.node-node.result c.node-node.ensures.node (ap live c.in-Expr.is)), walk start (c.requires.script ∙ sym c.node-node.ensures.children) (omega (arith, c.requires.fits, kids_less c.args.t.now c.node-node.result c.node-node.ensures.node (ap live c.in-Expr.is))))
+gen_expr-gen_binary_op-requires t c = in_kids c.node-node.result 0 5 (omega arith) c.decreases c.requires c.node-node.ensures.children c.node-node.ensures.node (ap live c.in-Expr.is)
 
 pub gen_expr-gen_call-requires : goal.gen_expr-gen_call-requires
-gen_expr-gen_call-requires t c = (omega (arith, c.decreases, c.requires.fits, kids_less c.args.t.now c.node-node.result c.node-node.ensures.node (ap live c.in-Expr.is)), walk start (c.requires.script ∙ sym c.node-node.ensures.children) (omega (arith, c.requires.fits, kids_less c.args.t.now c.node-node.result c.node-node.ensures.node (ap live c.in-Expr.is))))
+gen_expr-gen_call-requires t c = in_kids c.node-node.result 0 5 (omega arith) c.decreases c.requires c.node-node.ensures.children c.node-node.ensures.node (ap live c.in-Expr.is)
 
 pub gen_expr-gen_call-requires-in-New : goal.gen_expr-gen_call-requires-in-New
-gen_expr-gen_call-requires-in-New t c = (omega (arith, c.decreases, c.requires.fits, kids_less c.args.t.now c.node-node.result c.node-node.ensures.node (ap live c.in-Expr.is)), walk start (c.requires.script ∙ sym c.node-node.ensures.children) (omega (arith, c.requires.fits, kids_less c.args.t.now c.node-node.result c.node-node.ensures.node (ap live c.in-Expr.is))))
+gen_expr-gen_call-requires-in-New t c = in_kids c.node-node.result 0 5 (omega arith) c.decreases c.requires c.node-node.ensures.children c.node-node.ensures.node (ap live c.in-Expr.is)
 
 pub gen_expr-gen_expr-requires : goal.gen_expr-gen_expr-requires
 gen_expr-gen_expr-requires t c = (omega (arith, c.decreases, c.requires.fits, kids_less c.args.t.now c.node-node.result c.node-node.ensures.node (ap live c.in-Expr.is), c.kid-source.ensures.kid.fewer, c.kid-target.ensures.kid.fewer), walk start (c.requires.script ∙ sym (c.kid-source.ensures.script ∙ c.node-node.ensures.children)) (omega (arith, c.requires.fits, kids_less c.args.t.now c.node-node.result c.node-node.ensures.node (ap live c.in-Expr.is), c.kid-source.ensures.kid.fewer, c.kid-target.ensures.kid.fewer)))
 
 pub gen_expr-gen_expr-requires-in-Case : goal.gen_expr-gen_expr-requires-in-Case
-gen_expr-gen_expr-requires-in-Case t c = (omega (arith, c.decreases, c.requires.fits, kids_less c.args.t.now c.node-node.result c.node-node.ensures.node (value_live c.in-Case.is)), walk start (c.requires.script ∙ sym c.node-node.ensures.children) (omega (arith, c.requires.fits, kids_less c.args.t.now c.node-node.result c.node-node.ensures.node (value_live c.in-Case.is))))
+gen_expr-gen_expr-requires-in-Case t c = in_kids c.node-node.result 0 0 (omega arith) c.decreases c.requires c.node-node.ensures.children c.node-node.ensures.node (value_live c.in-Case.is)
 
 pub gen_expr-gen_expr-requires-in-DuplicateMovieClip : goal.gen_expr-gen_expr-requires-in-DuplicateMovieClip
 gen_expr-gen_expr-requires-in-DuplicateMovieClip t c = (omega (arith, c.decreases, c.requires.fits, kids_less c.args.t.now c.node-node.result c.node-node.ensures.node (ap live c.in-Expr.is), c.kid-source.ensures.kid.fewer, c.kid-target.ensures.kid.fewer, c.gen_expr.auto.scratch), walk (walked c.gen_expr.ensures start) (c.requires.script ∙ sym (c.kid-target.ensures.script ∙ c.node-node.ensures.children)) (omega (arith, c.requires.fits, kids_less c.args.t.now c.node-node.result c.node-node.ensures.node (ap live c.in-Expr.is), c.kid-source.ensures.kid.fewer, c.kid-target.ensures.kid.fewer, c.gen_expr.auto.scratch)))
@@ -364,7 +364,7 @@ pub gen_expr-gen_expr-requires-in-DuplicateMovieClip-2 : goal.gen_expr-gen_expr-
 gen_expr-gen_expr-requires-in-DuplicateMovieClip-2 t c = (omega (arith, c.decreases, c.requires.fits, kids_less c.args.t.now c.node-node.result c.node-node.ensures.node (ap live c.in-Expr.is), c.kid-source.ensures.kid.fewer, c.kid-target.ensures.kid.fewer, c.gen_expr.auto.scratch, c.gen_expr-in-DuplicateMovieClip.auto.scratch), walk (built {d = c.gen_expr-in-DuplicateMovieClip.new.context} c.push.ensures.keeps.list (walked c.gen_expr-in-DuplicateMovieClip.ensures (walked c.gen_expr.ensures start))) (c.requires.script ∙ sym c.node-node.ensures.children) (omega (arith, c.requires.fits, kids_less c.args.t.now c.node-node.result c.node-node.ensures.node (ap live c.in-Expr.is), c.kid-source.ensures.kid.fewer, c.kid-target.ensures.kid.fewer, c.gen_expr.auto.scratch, c.gen_expr-in-DuplicateMovieClip.auto.scratch)))
 
 pub gen_expr-gen_expr-requires-in-GetProperty : goal.gen_expr-gen_expr-requires-in-GetProperty
-gen_expr-gen_expr-requires-in-GetProperty t c = (omega (arith, c.decreases, c.requires.fits, kids_less c.args.t.now c.node-node.result c.node-node.ensures.node (ap live c.in-Expr.is)), walk start (c.requires.script ∙ sym c.node-node.ensures.children) (omega (arith, c.requires.fits, kids_less c.args.t.now c.node-node.result c.node-node.ensures.node (ap live c.in-Expr.is))))
+gen_expr-gen_expr-requires-in-GetProperty t c = in_kids c.node-node.result 0 0 (omega arith) c.decreases c.requires c.node-node.ensures.children c.node-node.ensures.node (ap live c.in-Expr.is)
 
 pub gen_expr-gen_expr-requires-in-SetProperty : goal.gen_expr-gen_expr-requires-in-SetProperty
 gen_expr-gen_expr-requires-in-SetProperty t c = (omega (arith, c.decreases, c.requires.fits, kids_less c.args.t.now c.node-node.result c.node-node.ensures.node (ap live c.in-Expr.is), c.kid-target-in-SetProperty.ensures.kid.fewer), walk start (c.requires.script ∙ sym (c.kid-target-in-SetProperty.ensures.script ∙ c.node-node.ensures.children)) (omega (arith, c.requires.fits, kids_less c.args.t.now c.node-node.result c.node-node.ensures.node (ap live c.in-Expr.is), c.kid-target-in-SetProperty.ensures.kid.fewer)))
@@ -376,13 +376,13 @@ pub gen_expr-gen_function-requires : goal.gen_expr-gen_function-requires
 gen_expr-gen_function-requires t c = (omega (arith, c.decreases, c.requires.fits, kids_less c.args.t.now c.node-node.result c.node-node.ensures.node (ap live c.in-Expr.is)), (walk start (c.requires.script ∙ sym c.node-node.ensures.children) (omega (arith, c.requires.fits, kids_less c.args.t.now c.node-node.result c.node-node.ensures.node (ap live c.in-Expr.is))), omega (arith, number_less (file_of c.args.t.now) _ (rw (c.in-Expr.is, c.in-Function.is) at (is_node _ _ _ c.args.t.now.within c.node-node.ensures.node).named), c.args.t.now.within.sound.few)))
 
 pub gen_expr-gen_ternary-requires : goal.gen_expr-gen_ternary-requires
-gen_expr-gen_ternary-requires t c = (omega (arith, c.decreases, c.requires.fits, kids_less c.args.t.now c.node-node.result c.node-node.ensures.node (ap live c.in-Expr.is)), walk start (c.requires.script ∙ sym c.node-node.ensures.children) (omega (arith, c.requires.fits, kids_less c.args.t.now c.node-node.result c.node-node.ensures.node (ap live c.in-Expr.is))))
+gen_expr-gen_ternary-requires t c = in_kids c.node-node.result 0 5 (omega arith) c.decreases c.requires c.node-node.ensures.children c.node-node.ensures.node (ap live c.in-Expr.is)
 
 pub gen_expr-gen_unary_op-requires : goal.gen_expr-gen_unary_op-requires
-gen_expr-gen_unary_op-requires t c = (omega (arith, c.decreases, c.requires.fits, kids_less c.args.t.now c.node-node.result c.node-node.ensures.node (ap live c.in-Expr.is)), walk start (c.requires.script ∙ sym c.node-node.ensures.children) (omega (arith, c.requires.fits, kids_less c.args.t.now c.node-node.result c.node-node.ensures.node (ap live c.in-Expr.is))))
+gen_expr-gen_unary_op-requires t c = in_kids c.node-node.result 0 5 (omega arith) c.decreases c.requires c.node-node.ensures.children c.node-node.ensures.node (ap live c.in-Expr.is)
 
 pub gen_expr-goto-requires : goal.gen_expr-goto-requires
-gen_expr-goto-requires t c = (omega (arith, c.decreases, c.requires.fits, kids_less c.args.t.now c.node-node.result c.node-node.ensures.node (ap live c.in-Expr.is)), walk start (c.requires.script ∙ sym c.node-node.ensures.children) (omega (arith, c.requires.fits, kids_less c.args.t.now c.node-node.result c.node-node.ensures.node (ap live c.in-Expr.is))))
+gen_expr-goto-requires t c = in_kids c.node-node.result 0 5 (omega arith) c.decreases c.requires c.node-node.ensures.children c.node-node.ensures.node (ap live c.in-Expr.is)
 
 pub gen_expr-invariant_of-context : goal.gen_expr-invariant_of-context
 gen_expr-invariant_of-context t c = record { laid_out = c.each.new.context.laid_out; indexed = index_stays (c.action.ensures (file_of c.args.t.now)).keeps.pool c.each.new.context.indexed }
@@ -592,31 +592,31 @@ pub gen_if-returns-then-is_present : goal.gen_if-returns-then-is_present
 gen_if-returns-then-is_present t c = walks (built {d = c.gen_statement-then-is_present.new.context} (c.mark_label-then-is_present.ensures (file_of c.args.t.now)).keeps.list (walked c.gen_statement-then-is_present.ensures (built {d = c.gen_statement.new.context} (keeps_then (c.jump.ensures (file_of c.args.t.now)).keeps (c.mark_label.ensures (file_of c.args.t.now)).keeps).list (walked c.gen_statement.ensures (built {d = c.gen_expr.new.context} (keeps_then (c.action.ensures (file_of c.args.t.now)).keeps (keeps_then (c.create_label-no.ensures (file_of c.args.t.now)).keeps (c.branch-context.ensures (file_of c.args.t.now)).keeps)).list (walked c.gen_expr.ensures (built {d = c.args.context.now} (c.create_label-end.ensures (file_of c.args.t.now)).keeps.list start))))))) (if_both_arm c.args.t.now.script.layout c.args.t.now.part (loop_of c.args.lp) c.kid-condition.ensures.kid c.kid-yes.ensures.kid (ap present (rec_is (is_node _ _ _ c.args.t.now.within c.node-node.ensures.node)) ∙ sym (c.is_present.ensures (file_of c.args.t.now)) ∙ c.if-is_present.true) (c.create_label-end.ensures (file_of c.args.t.now)).does (rw c.kid-condition.ensures.script at c.gen_expr.ensures.does) (c.action.ensures (file_of c.args.t.now)).does (c.create_label-no.ensures (file_of c.args.t.now)).does (c.branch-context.ensures (file_of c.args.t.now)).does (rw c.kid-yes.ensures.script at c.gen_statement.ensures.does) (c.jump.ensures (file_of c.args.t.now)).does (c.mark_label.ensures (file_of c.args.t.now)).does c.gen_statement-then-is_present.ensures.does (c.mark_label-then-is_present.ensures (file_of c.args.t.now)).does)
 
 pub gen_statement-exit-requires : goal.gen_statement-exit-requires
-gen_statement-exit-requires t c = (omega (arith, c.decreases, c.requires.fits, kids_less c.args.t.now c.node-node.result c.node-node.ensures.node (ap live c.in-Statement.is)), walk start (c.requires.script ∙ sym c.node-node.ensures.children) (omega (arith, c.requires.fits, kids_less c.args.t.now c.node-node.result c.node-node.ensures.node (ap live c.in-Statement.is))))
+gen_statement-exit-requires t c = in_kids c.node-node.result 0 5 (omega arith) c.decreases c.requires c.node-node.ensures.children c.node-node.ensures.node (ap live c.in-Statement.is)
 
 pub gen_statement-exit-requires-in-Throw : goal.gen_statement-exit-requires-in-Throw
-gen_statement-exit-requires-in-Throw t c = (omega (arith, c.decreases, c.requires.fits, kids_less c.args.t.now c.node-node.result c.node-node.ensures.node (ap live c.in-Statement.is)), walk start (c.requires.script ∙ sym c.node-node.ensures.children) (omega (arith, c.requires.fits, kids_less c.args.t.now c.node-node.result c.node-node.ensures.node (ap live c.in-Statement.is))))
+gen_statement-exit-requires-in-Throw t c = in_kids c.node-node.result 0 5 (omega arith) c.decreases c.requires c.node-node.ensures.children c.node-node.ensures.node (ap live c.in-Statement.is)
 
 pub gen_statement-gen_expr-requires : goal.gen_statement-gen_expr-requires
 gen_statement-gen_expr-requires t c = (omega (arith, c.decreases, c.requires.fits, kids_less c.args.t.now c.node-node.result c.node-node.ensures.node (ap live c.in-Statement.is)), walk (acted (c.push_string.ensures (rw c.requires.script ((rw (c.in-Statement.is, c.in-Declare.is) at (is_node _ _ _ c.args.t.now.within c.node-node.ensures.node).named)))) start) (c.requires.script ∙ sym c.node-node.ensures.children) (omega (arith, c.requires.fits, kids_less c.args.t.now c.node-node.result c.node-node.ensures.node (ap live c.in-Statement.is))))
 
 pub gen_statement-gen_expr-requires-in-Expr : goal.gen_statement-gen_expr-requires-in-Expr
-gen_statement-gen_expr-requires-in-Expr t c = (omega (arith, c.decreases, c.requires.fits, kids_less c.args.t.now c.node-node.result c.node-node.ensures.node (ap live c.in-Statement.is)), walk start (c.requires.script ∙ sym c.node-node.ensures.children) (omega (arith, c.requires.fits, kids_less c.args.t.now c.node-node.result c.node-node.ensures.node (ap live c.in-Statement.is))))
+gen_statement-gen_expr-requires-in-Expr t c = in_kids c.node-node.result 0 0 (omega arith) c.decreases c.requires c.node-node.ensures.children c.node-node.ensures.node (ap live c.in-Statement.is)
 
 pub gen_statement-gen_for_loop-requires : goal.gen_statement-gen_for_loop-requires
 gen_statement-gen_for_loop-requires t c = (omega (arith, c.decreases, c.requires.fits, kids_less c.args.t.now c.node-node.result c.node-node.ensures.node (ap live c.in-Statement.is)), (walk start (c.requires.script ∙ sym c.node-node.ensures.children) (omega (arith, c.requires.fits, kids_less c.args.t.now c.node-node.result c.node-node.ensures.node (ap live c.in-Statement.is))), rw c.node-node.ensures.children (rw (c.in-Statement.is, c.in-ForIn.is) at (is_node _ _ _ c.args.t.now.within c.node-node.ensures.node).named)))
 
 pub gen_statement-gen_if-requires : goal.gen_statement-gen_if-requires
-gen_statement-gen_if-requires t c = (omega (arith, c.decreases, c.requires.fits, kids_less c.args.t.now c.node-node.result c.node-node.ensures.node (ap live c.in-Statement.is)), walk start (c.requires.script ∙ sym c.node-node.ensures.children) (omega (arith, c.requires.fits, kids_less c.args.t.now c.node-node.result c.node-node.ensures.node (ap live c.in-Statement.is))))
+gen_statement-gen_if-requires t c = in_kids c.node-node.result 0 5 (omega arith) c.decreases c.requires c.node-node.ensures.children c.node-node.ensures.node (ap live c.in-Statement.is)
 
 pub gen_statement-gen_statements-requires : goal.gen_statement-gen_statements-requires
 gen_statement-gen_statements-requires t c = (omega (arith, c.decreases, c.requires.fits, kids_less c.args.t.now c.node-node.result c.node-node.ensures.node (ap live c.in-Statement.is), c.list-body.ensures.list.fewer, c.innermost-inner.ensures.innermost.fewer), walk start (c.requires.script ∙ sym (c.innermost-inner.ensures.script ∙ c.list-body.ensures.script ∙ c.node-node.ensures.children)) (omega (arith, c.requires.fits, kids_less c.args.t.now c.node-node.result c.node-node.ensures.node (ap live c.in-Statement.is), c.list-body.ensures.list.fewer, c.innermost-inner.ensures.innermost.fewer)))
 
 pub gen_statement-gen_switch-requires : goal.gen_statement-gen_switch-requires
-gen_statement-gen_switch-requires t c = (omega (arith, c.decreases, c.requires.fits, kids_less c.args.t.now c.node-node.result c.node-node.ensures.node (ap live c.in-Statement.is)), walk start (c.requires.script ∙ sym c.node-node.ensures.children) (omega (arith, c.requires.fits, kids_less c.args.t.now c.node-node.result c.node-node.ensures.node (ap live c.in-Statement.is))))
+gen_statement-gen_switch-requires t c = in_kids c.node-node.result 0 5 (omega arith) c.decreases c.requires c.node-node.ensures.children c.node-node.ensures.node (ap live c.in-Statement.is)
 
 pub gen_statement-gen_while_loop-requires : goal.gen_statement-gen_while_loop-requires
-gen_statement-gen_while_loop-requires t c = (omega (arith, c.decreases, c.requires.fits, kids_less c.args.t.now c.node-node.result c.node-node.ensures.node (ap live c.in-Statement.is)), walk start (c.requires.script ∙ sym c.node-node.ensures.children) (omega (arith, c.requires.fits, kids_less c.args.t.now c.node-node.result c.node-node.ensures.node (ap live c.in-Statement.is))))
+gen_statement-gen_while_loop-requires t c = in_kids c.node-node.result 0 5 (omega arith) c.decreases c.requires c.node-node.ensures.children c.node-node.ensures.node (ap live c.in-Statement.is)
 
 pub gen_statement-invariant_of-context : goal.gen_statement-invariant_of-context
 gen_statement-invariant_of-context t c = record { laid_out = c.gen_expr.new.context.laid_out; indexed = index_stays (c.action.ensures (file_of c.args.t.now)).keeps.pool c.gen_expr.new.context.indexed }
@@ -775,13 +775,13 @@ pub gen_unary_op-gen_expr-requires : goal.gen_unary_op-gen_expr-requires
 gen_unary_op-gen_expr-requires t c = (omega (arith, c.decreases, c.requires.fits), walk (built {d = c.args.context.now} c.push.ensures.keeps.list start) c.requires.script (omega (arith, c.requires.fits)))
 
 pub gen_unary_op-gen_expr-requires-in-Add : goal.gen_unary_op-gen_expr-requires-in-Add
-gen_unary_op-gen_expr-requires-in-Add t c = (omega (arith, c.decreases, c.requires.fits), walk start c.requires.script (omega (arith, c.requires.fits)))
+gen_unary_op-gen_expr-requires-in-Add t c = (omega (arith, c.decreases), c.requires)
 
 pub gen_unary_op-gen_expr-requires-in-BitNot : goal.gen_unary_op-gen_expr-requires-in-BitNot
-gen_unary_op-gen_expr-requires-in-BitNot t c = (omega (arith, c.decreases, c.requires.fits), walk start c.requires.script (omega (arith, c.requires.fits)))
+gen_unary_op-gen_expr-requires-in-BitNot t c = (omega (arith, c.decreases), c.requires)
 
 pub gen_unary_op-gen_expr-requires-in-LogicalNot : goal.gen_unary_op-gen_expr-requires-in-LogicalNot
-gen_unary_op-gen_expr-requires-in-LogicalNot t c = (omega (arith, c.decreases, c.requires.fits), walk start c.requires.script (omega (arith, c.requires.fits)))
+gen_unary_op-gen_expr-requires-in-LogicalNot t c = (omega (arith, c.decreases), c.requires)
 
 pub gen_unary_op-gen_expr-requires-in-None : goal.gen_unary_op-gen_expr-requires-in-None
 gen_unary_op-gen_expr-requires-in-None t c = (omega (arith, c.decreases, c.requires.fits), walk (built {d = c.args.context.now} c.push-in-None.ensures.keeps.list start) c.requires.script (omega (arith, c.requires.fits)))
@@ -856,10 +856,10 @@ pub gen_while_loop-returns : goal.gen_while_loop-returns
 gen_while_loop-returns t c = walks (built {d = c.gen_statement.new.context} (keeps_then (c.jump.ensures (file_of c.args.t.now)).keeps (c.mark_label-2.ensures (file_of c.args.t.now)).keeps).list (walked c.gen_statement.ensures (built {d = c.gen_expr.new.context} (keeps_then (c.action.ensures (file_of c.args.t.now)).keeps (c.branch-context.ensures (file_of c.args.t.now)).keeps).list (walked c.gen_expr.ensures (built {d = c.args.context.now} (keeps_then (c.create_label-start.ensures (file_of c.args.t.now)).keeps (keeps_then (c.create_label-end.ensures (file_of c.args.t.now)).keeps (c.mark_label.ensures (file_of c.args.t.now)).keeps)).list start))))) (while_arm c.args.t.now.script.layout c.args.t.now.part c.kid-condition.ensures.kid (loop_of c.loop_to-inner.result) c.loop_to-inner.ensures (c.create_label-start.ensures (file_of c.args.t.now)).does (c.create_label-end.ensures (file_of c.args.t.now)).does (c.mark_label.ensures (file_of c.args.t.now)).does (rw c.kid-condition.ensures.script at c.gen_expr.ensures.does) (c.action.ensures (file_of c.args.t.now)).does (c.branch-context.ensures (file_of c.args.t.now)).does c.gen_statement.ensures.does (c.jump.ensures (file_of c.args.t.now)).does (c.mark_label-2.ensures (file_of c.args.t.now)).does)
 
 pub goto-gen_expr-requires : goal.goto-gen_expr-requires
-goto-gen_expr-requires t c = (omega (arith, c.decreases, c.requires.fits), walk start c.requires.script (omega (arith, c.requires.fits)))
+goto-gen_expr-requires t c = (omega (arith, c.decreases), c.requires)
 
 pub goto-gen_expr-requires-in-None : goal.goto-gen_expr-requires-in-None
-goto-gen_expr-requires-in-None t c = (omega (arith, c.decreases, c.requires.fits), walk start c.requires.script (omega (arith, c.requires.fits)))
+goto-gen_expr-requires-in-None t c = (omega (arith, c.decreases), c.requires)
 
 pub goto-invariant_of-context : goal.goto-invariant_of-context
 goto-invariant_of-context t c = record { laid_out = c.args.context.now.laid_out; indexed = index_stays (keeps_then c.goto_label.ensures.keeps (c.play_if.ensures (file_of c.args.t.now)).keeps).pool c.args.context.now.indexed }
@@ -886,28 +886,28 @@ pub goto-returns-in-Some-String : goal.goto-returns-in-Some-String
 goto-returns-in-Some-String t c = walks (built {d = c.args.context.now} (keeps_then c.goto_label.ensures.keeps (c.play_if.ensures (file_of c.args.t.now)).keeps).list start) (rw (literal_of (is_node _ _ _ c.args.t.now.within c.node-node.ensures.node), ← literal_is (file_of c.args.t.now) c.node-node.result.root, ← c.literal_of.ensures, c.in-Some-String.is, c.in-Some-String.field-0-is, ← text_is (file_of c.args.t.now) c.in-Some-String.s c.args.t.now.within.sound.short) (goto_label_arm c.args.t.now.script.layout c.args.t.now.part (text_in (file_of c.args.t.now) c.in-Some-String.s) c.args.play (c.goto_label.ensures.runs (file_of c.args.t.now) (literal_named (file_of c.args.t.now) c.node-node.result.number c.node-node.result.root c.in-Some-String.s (is_node _ _ _ c.args.t.now.within c.node-node.ensures.node).named (sym c.literal_of.ensures ∙ (rw c.in-Some-String.field-0-is at c.in-Some-String.is)))).does (c.play_if.ensures (file_of c.args.t.now)).does))
 
 pub one-gen_expr-requires : goal.one-gen_expr-requires
-one-gen_expr-requires t c = (omega (arith, c.decreases, c.requires.walk.fits), walk start c.requires.walk.script (omega (arith, c.requires.walk.fits)))
+one-gen_expr-requires t c = (omega (arith, c.decreases), c.requires.walk)
 
 pub one-gen_expr-requires-in-Case : goal.one-gen_expr-requires-in-Case
 one-gen_expr-requires-in-Case t c = (omega (arith, c.decreases, c.requires.walk.fits), walk (built {d = c.args.context.now} (c.push_if.ensures (file_of c.args.t.now)).keeps.list start) c.requires.walk.script (omega (arith, c.requires.walk.fits)))
 
 pub one-gen_expr-requires-in-Discarded : goal.one-gen_expr-requires-in-Discarded
-one-gen_expr-requires-in-Discarded t c = (omega (arith, c.decreases, c.requires.walk.fits), walk start c.requires.walk.script (omega (arith, c.requires.walk.fits)))
+one-gen_expr-requires-in-Discarded t c = (omega (arith, c.decreases), c.requires.walk)
 
 pub one-gen_expr-requires-in-Field : goal.one-gen_expr-requires-in-Field
 one-gen_expr-requires-in-Field t c = (omega (arith, c.decreases, c.requires.walk.fits), walk (acted (c.push_string.ensures (rw c.requires.walk.script ((c.name_of-key.ensures (file_of c.args.t.now) c.node-node.result.number c.args.t.now.within.sound.short (is_node _ _ _ c.args.t.now.within c.node-node.ensures.node).named).1))) start) c.requires.walk.script (omega (arith, c.requires.walk.fits)))
 
 pub one-gen_statement-requires : goal.one-gen_statement-requires
-one-gen_statement-requires t c = (omega (arith, c.decreases, c.requires.walk.fits), walk start c.requires.walk.script (omega (arith, c.requires.walk.fits)))
+one-gen_statement-requires t c = (omega (arith, c.decreases), c.requires.walk)
 
 pub one-gen_statement-requires-then-is_hoisted : goal.one-gen_statement-requires-then-is_hoisted
-one-gen_statement-requires-then-is_hoisted t c = (omega (arith, c.decreases, c.requires.walk.fits), walk start c.requires.walk.script (omega (arith, c.requires.walk.fits)))
+one-gen_statement-requires-then-is_hoisted t c = (omega (arith, c.decreases), c.requires.walk)
 
 pub one-gen_statement-requires-then-not-is_hoisted : goal.one-gen_statement-requires-then-not-is_hoisted
-one-gen_statement-requires-then-not-is_hoisted t c = (omega (arith, c.decreases, c.requires.walk.fits), walk start c.requires.walk.script (omega (arith, c.requires.walk.fits)))
+one-gen_statement-requires-then-not-is_hoisted t c = (omega (arith, c.decreases), c.requires.walk)
 
 pub one-gen_statement-requires-then-seen-ne0 : goal.one-gen_statement-requires-then-seen-ne0
-one-gen_statement-requires-then-seen-ne0 t c = (omega (arith, c.decreases, c.requires.walk.fits), walk start c.requires.walk.script (omega (arith, c.requires.walk.fits)))
+one-gen_statement-requires-then-seen-ne0 t c = (omega (arith, c.decreases), c.requires.walk)
 
 pub one-invariant_of-context : goal.one-invariant_of-context
 one-invariant_of-context t c = record { laid_out = c.gen_expr-in-Discarded.new.context.laid_out; indexed = index_stays (c.truncate_stack.ensures (file_of c.args.t.now)).keeps.pool c.gen_expr-in-Discarded.new.context.indexed }
