@@ -466,7 +466,7 @@ pub gen_expr-returns-in-New : goal.gen_expr-returns-in-New
 gen_expr-returns-in-New t c = walks (walked c.gen_call-in-New.ensures start) (rw (expr_at (is_node _ _ _ c.args.t.now.within c.node-node.ensures.node) c.args.discard c.in-Expr.is, c.in-New.is) (rw c.node-node.ensures.children at c.gen_call-in-New.ensures.does))
 
 pub gen_expr-returns-in-SetProperty : goal.gen_expr-returns-in-SetProperty
-gen_expr-returns-in-SetProperty t c = walks (built {d = c.gen_expr-in-SetProperty-2.new.context} (c.action-in-SetProperty.ensures (file_of c.args.t.now)).keeps.list (walked c.gen_expr-in-SetProperty-2.ensures (built {d = c.gen_expr-in-SetProperty.new.context} c.push-in-SetProperty.ensures.keeps.list (walked c.gen_expr-in-SetProperty.ensures start)))) (rw (expr_at (is_node _ _ _ c.args.t.now.within c.node-node.ensures.node) c.args.discard c.in-Expr.is, c.in-SetProperty.is) (set_property_arm c.args.t.now.script.layout c.node-node.result.children.part (unsigned c.in-SetProperty.n) (rw c.node-node.ensures.children at c.kid-target-in-SetProperty.ensures.kid) (rw (c.kid-target-in-SetProperty.ensures.script ∙ c.node-node.ensures.children) at c.gen_expr-in-SetProperty.ensures.does) (rw (ap unsigned (to_z-of_z w32 c.in-SetProperty.n (record { sfits = c.in-SetProperty.known_told-in-Expr-9-1-own.given.0.1 }))) at (c.push-in-SetProperty.ensures.runs (file_of c.args.t.now) tt).does) (rw c.node-node.ensures.children at c.gen_expr-in-SetProperty-2.ensures.does) (c.action-in-SetProperty.ensures (file_of c.args.t.now)).does))
+gen_expr-returns-in-SetProperty t c = walks (built {d = c.gen_expr-in-SetProperty-2.new.context} (c.action-in-SetProperty.ensures (file_of c.args.t.now)).keeps.list (walked c.gen_expr-in-SetProperty-2.ensures (built {d = c.gen_expr-in-SetProperty.new.context} c.push-in-SetProperty.ensures.keeps.list (walked c.gen_expr-in-SetProperty.ensures start)))) (rw (expr_at (is_node _ _ _ c.args.t.now.within c.node-node.ensures.node) c.args.discard c.in-Expr.is, c.in-SetProperty.is) (set_property_arm c.args.t.now.script.layout c.node-node.result.children.part (unsigned c.in-SetProperty.n) (rw c.node-node.ensures.children at c.kid-target-in-SetProperty.ensures.kid) (rw (c.kid-target-in-SetProperty.ensures.script ∙ c.node-node.ensures.children) at c.gen_expr-in-SetProperty.ensures.does) (rw (ap unsigned (to_z-of_z w32 c.in-SetProperty.n (search rules))) at (c.push-in-SetProperty.ensures.runs (file_of c.args.t.now) tt).does) (rw c.node-node.ensures.children at c.gen_expr-in-SetProperty-2.ensures.does) (c.action-in-SetProperty.ensures (file_of c.args.t.now)).does))
 
 pub gen_expr-returns-in-Simple : goal.gen_expr-returns-in-Simple
 gen_expr-returns-in-Simple t c = walks (built {d = c.each.new.context} (c.action.ensures (file_of c.args.t.now)).keeps.list (walked c.each.ensures start)) (rw (expr_at (is_node _ _ _ c.args.t.now.within c.node-node.ensures.node) c.args.discard c.in-Expr.is, c.in-Simple.is, ← c.action_of-o.ensures) (trivial_arm c.args.t.now.script.layout c.node-node.result.children.part (loop_of c.no_loop-idle.result) c.action_of-o.result (rw c.node-node.ensures.children at c.each.ensures.does) (c.action.ensures (file_of c.args.t.now)).does))
