@@ -291,7 +291,8 @@ pub fn default_label(end: u32, first: u32, n: Counts) -> u32
 }
 
 // Whether the old value is left, and whether the new one is not: one joins the two tests by `and`, the other by `or`, so that no constant or type tells them
-// apart. `==` in place of `matches!` would want a PartialEq of Affix for these two lines alone.
+// apart. `==` in place of `matches!` would want a PartialEq of Affix for these two lines alone. They come from two places, the record of the
+// operator and the expression around it.
 pub fn keeps_old(affix: Affix, discard: bool) -> bool
     ensures { result ≡ (not discard && not (statement.is_prefix affix)) }
 {

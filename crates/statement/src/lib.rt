@@ -2,10 +2,11 @@
 
 // Statements, expressions, accesses and function bodies (`statement.rs`). They call each other in a ring: a call goes to a part of fewer records, or to the
 // same part further down in this order: the constructs, gen_statements, each and args, one, for_expr, gen_expr and gen_statement.
-// Each takes the trees, the last of which (or all of which) it generates, the context, and a scratch slice. These are three parameters and no struct: a call goes
-// to other trees, and `each` lends on the part of the slice behind the ends that it still needs, with the whole context. A struct of both would be made anew
-// there, or have a place in the slice, and each contract would say that the words before it stay; and that the context that comes back lies where it lay.
-// `Walk` ties the three to each other, so that no type of one of them can have it as a ghost field.
+// Each takes the trees, the last of which (or all of which) it generates, the context, and a scratch slice, which the caller lends since there is no heap.
+// They are three parameters, and no struct with methods. `each` lends on the part of the slice behind the ends that it still needs, together with the whole
+// context: a struct of the two would be made anew there, of what it holds by `&mut`, and then each contract would have to say that the context and the slice come
+// back to the caller's places, as `same_list` says of the words. `Walk` holds between the three, so that it is a ghost field of none of them. The loop around,
+// whether a value is wanted, and the step of a row change from call to call.
 ghost use Rattle.std.specs.Prelude.{◌≡◌, ◌+◌, ◌≤◌, ◌<◌, T, length};
 ghost use Rattle.std.specs.Int.{from_bool};
 ghost use Rattle.pcode.specs.Pcode.{moved};
@@ -104,6 +105,8 @@ fn each(
     }
 }
 
+// The step of a row is an enum, and no closure: these functions call each other in a ring, where a call through a closure gets no proof, and a function may not
+// make one and hand it out.
 #[cycle(ring)]
 fn one(
     t: &Trees,
@@ -681,7 +684,7 @@ fn gen_ternary(t: &Trees, context: &mut ScriptContext, scratch: &mut [usize])
     context.builder.assume_stack_delta(1);
 }
 
-// `gen_call`, and `gen_new`.
+// `gen_call`, and `gen_new`: `new` is asked once, at the last step, which needs the access that is made before it, so that a closure would ask the same.
 #[cycle(ring)]
 fn gen_call(t: &Trees, context: &mut ScriptContext, scratch: &mut [usize], new: bool)
     requires { Walk t.now context.old (length scratch.old) }
