@@ -50,7 +50,7 @@ pub fn assign_value(builder: &mut CodeBuilder, discard: bool, access: Access)
     }
 }
 
-// A constant as an expression: a literal needs no access.
+// A constant as an expression: a literal needs no access. By `for_constant` and `get_value` each literal of a long row would make one to be taken apart again.
 pub fn read_constant(context: &mut ScriptContext, c: ConstantKind)
     requires file_len_bound { length context.old.script.bytes.now ≤ 1048576 }
     requires t { T (constant_named context.old.script.bytes.now c) }
