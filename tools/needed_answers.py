@@ -20,7 +20,7 @@ def entries(text):
     pieces, name, lines, pending = [], None, [], []
     for line in text.split('\n'):
         head = HEAD.match(line)
-        if head or (line and not line[0].isspace() and name and not line.startswith(name + ' ') and not line.startswith('--')):
+        if head or (line and not line[0].isspace() and line[0] not in ')}]' and name and not line.startswith(name + ' ') and not line.startswith('--')):
             pieces.append((name, '\n'.join(lines)))
             name, lines = (head.group(1) if head else None), pending
             pending = []

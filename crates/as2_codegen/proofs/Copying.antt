@@ -18,16 +18,10 @@ pub all_zeros : (n : ℕ) → replicate n 0 ≡ zeros_of n
 unfolding zeros_of
 all_zeros n = refl
 
-pub first_long : (w : List ℕ) → length w ≡ 20480 → 16384 ≡ length (take 16384 w)
-first_long w e = simp length-take (omega arith)
-
-pub both_long : (w v : List ℕ) → length w ≡ 20480 → 16384 ≤ length v → length (take 16384 v) ≡ length (take 16384 w)
-both_long w v e h = simp length-take (omega arith)
-
 -- the first words, in place of those of a slice of zeros
 module _ (w v : List ℕ) (long : length w ≡ 20480) (room : 16384 ≤ length v) (zeros : v ≡ zeros_of (length v)) {x : List ℕ} (e : x ≡ take 16384 w) where
   x_long : length x ≡ 16384
-  x_long = ap length e ∙ sym (first_long w long)
+  x_long = ap length e ∙ simp length-take (omega arith)
 
   pub copied : Copied w (x ++ drop 16384 v)
   copied = record {

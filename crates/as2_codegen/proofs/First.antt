@@ -18,6 +18,7 @@ use Rattle.builder.specs.Entries.{put3}
 use Rattle.builder.proofs.Words.{length_put, entry_same, entry_other, getD_put}
 use Rattle.as2_codegen.specs.Begin.{Begun}
 
+-- The library's get_or-replicate is of places within the list; behind it the default is 0 too.
 zero_at : (n i : ℕ) → get_or {A = ℕ} (replicate n 0) i 0 ≡ 0
 zero_at zero i = refl
 zero_at (suc n) zero = refl

@@ -64,7 +64,7 @@ refuses F n e q = record { answer = q; number = rw q; list_length = zeros_length
 pub whole_within : (F : List ℕ) → check_of F ≡ 0 → {l : Layout} {p : Part} → l ≡ layout_of F → p ≡ statements_part (layout_of F) → Within F l p
 whole_within F a e q = rw (e, q) (accepted_within F a)
 
--- the numbers that lowering gives
+-- The numbers that lowering gives. The library has no lemma that bounds one of four numbers.
 low : (n : ℕ) → (n ≡ 5) ⊎ ((n ≡ 6) ⊎ ((n ≡ 7) ⊎ (n ≡ 8))) → (5 ≤ n) × (n ≤ 8)
 low n (inl e) = (omega arith, omega arith)
 low n (inr (inl e)) = (omega arith, omega arith)

@@ -17,21 +17,20 @@ ghost use Rattle.as2_codegen.specs.Lowering.{Lowers, Generated};
 use builder::builder::CodeBuilder;
 use builder::entries::put;
 use builder::finish::into_actions;
-use codegen_state::{BuilderState, MAX_ENTRIES, Stop};
+use codegen_state::{BuilderState, LINKS, MAX_ENTRIES, MAX_VALUES, Stop};
 use constants::context::ScriptContext;
 use refusal::Refusal;
 use rows::no_loop;
 use script_records::layout::{ScriptFile, layout_of};
 use script_records::part::Part;
+use slice_words::LIST_WORDS;
 use slice_words::code::CONSTANT_POOL;
 use statement::gen_statements;
 use tree::Trees;
 use zeros::clear_words;
 
-// Words of the list slice, and with the pool's index behind them.
-const SLICE: usize = 16384;
-
-const WORDS: usize = 20480;
+// The words of the list slice with the pool's index behind them, which ends in the links of the strings.
+const WORDS: usize = LINKS + MAX_VALUES as usize;
 
 // The statements of an accepted file.
 #[derive(Clone, Copy)]
@@ -40,7 +39,8 @@ struct Accepted<'a> {
     ghost whole: { Statements statements },
 }
 
-// The pool's place is kept, as action 1; `Constants::empty` sets the pool's total to 2.
+// The pool's place is kept, as action 1; `Constants::empty` sets the pool's total to 2. The reader of actions, which reads the pool's record first and counts in
+// a state of its own, has only the `put` in common with this.
 fn begin<'a>(script: ScriptFile<'a>, list: &'a mut [u32]) -> ScriptContext<'a>
     requires script_value { script.layout ≡ layout_of script.bytes.now }
     requires in_bounds { 20480 ≤ length list.old }
@@ -91,7 +91,7 @@ fn statements_of(file: &[u8]) -> Accepted
     }
 }
 
-// Few records need little scratch, which takes less time to clear.
+// Few records need little scratch, which takes less time to clear: a 16th or a 256th of what the 65536 records of the largest file need.
 fn with_scratch<const N: usize>(t: &Trees, context: &mut ScriptContext)
     requires walk { Walk t.now context.old N }
     requires n_bound { N ≤ 65536 }
@@ -155,7 +155,8 @@ fn generate(accepted: &Accepted, words: &mut [u32]) -> Result<(), Refusal>
     Ok(())
 }
 
-// In words beside the list slice. After a refusal the slice stays as it is.
+// In words beside the list slice. After a refusal the slice stays as it is. The slice is the C caller's, of any length: that it is long enough and cleared holds
+// from `script_to_actions` on, in these two calls, and no type of its own is made for them.
 fn lower_beside(accepted: &Accepted, list: &mut [u32]) -> Result<(), Refusal>
     requires in_bounds { 16384 ≤ length list.old }
     requires list_value { list.old ≡ zeros_of (length list.old) }
@@ -163,7 +164,7 @@ fn lower_beside(accepted: &Accepted, list: &mut [u32]) -> Result<(), Refusal>
 {
     let mut work = [0u32; WORDS];
     generate(accepted, &mut work)?;
-    list[..SLICE].copy_from_slice(&work[..SLICE]);
+    list[..LIST_WORDS].copy_from_slice(&work[..LIST_WORDS]);
     Ok(())
 }
 
@@ -180,16 +181,16 @@ fn lower(accepted: &Accepted, list: &mut [u32]) -> Result<(), Refusal>
         clear_words(list);
         return Err(refusal);
     }
-    list[SLICE..].fill(0);
+    list[LIST_WORDS..].fill(0);
     Ok(())
 }
 
-// A file of any content: its lists, or the one refusal among 13, 4, 1, 2, 3, 4, 5, 6, 7, 8, after which the slice has only zeros.
+// The call's own two parameters, as C gives them. A file of any content: its lists, or the one refusal among 13, 4, 1, 2, 3, 4, 5, 6, 7, 8, after which the slice has only zeros.
 pub fn script_to_actions(file: &[u8], list: &mut [u32]) -> Result<(), Refusal>
     ensures { Lowers limits01 file.now (length list.old) result list.new }
 {
     clear_words(list);
-    if list.len() < SLICE {
+    if list.len() < LIST_WORDS {
         return Err(Refusal::ShortList);
     }
     script::check(file)?;

@@ -1,12 +1,11 @@
 -- Arguments, from the last to the first, one expression at a time.
-use Prim.Native.Nat.{ℕ, ◌<◌}
+use Prim.Native.Nat.{ℕ, ◌-◌, ◌<◌}
 use mathlib.Core.Path.{◌≡◌, refl, sym, ap, ◌∙◌}
 use mathlib.Core.Bool.{Bool, false}
 use mathlib.Core.List.{List}
 use native.Mathlib.Omega.{arith}
-use lib.Dec.{T, eqb}
+use lib.Dec.{T}
 use lib.ListN.{length}
-use borrow.Author.Tests.{eqb-false}
 use Rattle.std.specs.Prelude.{IsSome}
 use Rattle.hir.specs.declared.ConstantKind.{ConstantKind}
 use Rattle.hir.specs.declared.ExprKind.{ExprKind}
@@ -19,6 +18,7 @@ use Rattle.script_records.specs.declared.part.Tree.{Tree}
 use Rattle.script_records.specs.Layout.{words_of, rows_of, layout_of, string_at}
 use Rattle.script_records.specs.Parts.{last_tree}
 use Rattle.decode.specs.Decode.{constant_of, record_of}
+use Rattle.script.specs.Rules as rules
 use Rattle.script.specs.Resolve.{resolved, expr_over}
 use Rattle.lowering.specs.Builder.{◌>>◌, push}
 use Rattle.lowering.specs.Meaning.{Meaning, width}
@@ -29,13 +29,13 @@ use Rattle.codegen_state.specs.View.{Held, held, after}
 use Rattle.codegen_state.specs.Does.{Fine, Does}
 use Rattle.codegen_state.proofs.Steps.{after_then, after_done, stays}
 use Rattle.tree.specs.declared.Node.{Node}
-use Rattle.tree.specs.Trees.{trees, rec_of, node_of, kind_at}
+use Rattle.tree.specs.Trees.{trees, rec_of, node_of}
 use Rattle.tree.specs.Within.{Within, IsNode, constant_named, meanings_at, kid_at}
 use Rattle.tree.proofs.Nodes.{is_node, node_made, trees_more, trees_none}
-use Rattle.tree.proofs.ByKind.{kind_none, rest_made}
+use Rattle.tree.proofs.ByKind.{kind_made}
 use Rattle.tree.proofs.Meanings.{kid_zero}
 use Rattle.rows.proofs.Passed.{void_root}
-use Rattle.leaves.specs.Args.{Args, Unchanged}
+use Rattle.leaves.specs.Args.{Args}
 use Rattle.leaves.proofs.Constants.{Reads}
 
 -- what a part's last tree generates as an expression
@@ -47,11 +47,13 @@ module _ {F : List ℕ} {l : Layout} {p : Part} {t : Node Part} (n : IsNode F l 
   unfolding resolved
   expr_at d e = expr_any d ∙ rw e
 
-pub some_left : {n : ℕ} → false ≡ eqb n 0 → n ≡ 0 → ⊥
-some_left {n} h = eqb-false n 0 (sym h)
-
 pub args_holds : (F : List ℕ) (l : Layout) (w : List ℕ) (p : Part) (b : BuilderState) → Within F l p → Fine b w → Args F l w p b w p b
 args_holds F l w p b i f = record { same = refl; fine = f; named = λ n. n; within = i; fewer = omega arith; list = refl }
+
+-- no trees, before the first of a part
+pub before_all : {F : List ℕ} {l : Layout} {p : Part} → Within F l p → Within F l (record { end = p.end - p.n; n = 0 })
+unfolding rules.parted rules.parted_in
+before_all w = record { layout = w.layout; inside = omega arith; known = omega (arith, w.inside, w.known); whole = refl; sound = w.sound }
 
 pub args_then : {F : List ℕ} {l : Layout} {w0 : List ℕ} {p : Part} {b0 : BuilderState} {w1 : List ℕ} {middle : Part} {b1 : BuilderState} {w : List ℕ} {left : Part} {b : BuilderState} →
     Args F l w0 p b0 w1 middle b1 → Args F l w1 middle b1 w left b → Args F l w0 p b0 w left b
@@ -114,34 +116,32 @@ module _ {F : List ℕ} {l : Layout} {w0 : List ℕ} {p : Part} {b0 : BuilderSta
     pub args_named : T (constant_named F c)
     args_named = rw root_is at (is_node F l left i.within refl).named
 
-    pub args_constant : {b1 : BuilderState} {w1 : List ℕ} → Reads F c b w b1 w1 → length w1 ≡ length w → Args F l w0 p b0 w1 t.before b1
-    args_constant o k = args_again z (rest_made F l left z e) (rw (expr_at (is_node F l left i.within refl) false root_is) o) k
+    pub args_constant : {before : Part} → before ≡ (node_of F l left).before → {b1 : BuilderState} {w1 : List ℕ} → Reads F c b w b1 w1 → length w1 ≡ length w → Args F l w0 p b0 w1 before b1
+    args_constant q o k = args_again z q (rw (expr_at (is_node F l left i.within refl) false root_is) o) k
 
--- a Void, of kind 48, generates nothing
-module _ (F : List ℕ) (l : Layout) (left : Part) (k : kind_at F l left ≡ 48) where
-  a_void : left.n ≡ 0 → ⊥
-  a_void z = omega (arith, kind_none F l left z)
+  -- a record of the kind 48 is a Void, which generates nothing
+  pub args_void : (left.n ≡ 0 → ⊥) → {t : Tree} → t ≡ last_tree (rows_of F l) left → t.row.kind ≡ 48 → {before : Part} → before ≡ (node_of F l left).before → Args F l w0 p b0 w before b
+  args_void z e h q =
+      let g = is_node F l left i.within refl in
+      let void = void_root F l left (sym (kind_made F l left z e) ∙ h) in
+      let nothing : (v : Held (Unit {0})) → after v ((kid_at F left 0).gen_expr false) ≡ v = λ v. rw (expr_at g false void) (after_done v) in
+      rw q (record {
+        same = sym (rw (reversed_more F l left g (omega (arith, z)), after_then, nothing (held F (tt {0}) b w)) refl) ∙ i.same;
+        fine = i.fine;
+        named = i.named;
+        within = g.rest_within;
+        fewer = omega (arith, g.apart, i.fewer);
+        list = i.list;
+      })
 
-  module _ {p before : Part} (i : Unchanged F l p left) (e : before ≡ (node_of F l left).before) where
-    pub void_less : before.n < left.n
-    void_less = rw e (omega (arith, a_void, (is_node F l left i.within refl).apart))
-
-    pub void_out : Unchanged F l p before
-    void_out =
-        let g = is_node F l left i.within refl in
-        let nothing : (v : Held (Unit {0})) → after v ((kid_at F left 0).gen_expr false) ≡ v = λ v. rw (expr_at g false (void_root F l left k)) (after_done v) in
-        rw e (record {
-          same = λ v. sym (rw (reversed_more F l left g (omega (arith, a_void)), after_then, nothing v) refl) ∙ i.same v;
-          within = g.rest_within;
-          fewer = omega (arith, g.apart, i.fewer);
-        })
-
-pub unchanged : (F : List ℕ) (l : Layout) (p : Part) → Within F l p → Unchanged F l p p
-unchanged F l p w = record { same = λ v. refl; within = w; fewer = omega arith }
-
-module _ {F : List ℕ} {l : Layout} {w0 : List ℕ} {p : Part} {b0 : BuilderState} {w : List ℕ} {left : Part} {b : BuilderState} where
-  pub args_without : {next : Part} → Args F l w0 p b0 w left b → Unchanged F l left next → Args F l w0 p b0 w next b
-  args_without i u = record { same = u.same _ ∙ i.same; fine = i.fine; named = i.named; within = u.within; fewer = omega (arith, i.fewer, u.fewer); list = i.list }
-
-  pub args_of_all : {all : Part} → Unchanged F l all p → Args F l w0 p b0 w left b → Args F l w0 all b0 w left b
-  args_of_all u i = record { same = i.same ∙ u.same _; fine = i.fine; named = i.named; within = i.within; fewer = omega (arith, i.fewer, u.fewer); list = i.list }
+  -- no argument is left
+  pub args_none : left.n ≡ 0 → {none : Part} → none.n ≡ 0 → Within F l none → Args F l w0 p b0 w none b
+  unfolding meanings
+  args_none z {none} n g = record {
+    same = rw (trees_none F none n) (rw (trees_none F left z) at i.same);
+    fine = i.fine;
+    named = i.named;
+    within = g;
+    fewer = omega (arith, n);
+    list = i.list;
+  }

@@ -54,7 +54,7 @@ frame_at (suc n) = let e : suc n - 1 ≡ n = omega arith in rw e
 pub frame_is : (z : ℤ) {u v : ℕ} → u ≡ of_z w32 z → v ≡ u - 1 → v % 65536 ≡ frame (unsigned z)
 frame_is z e q = rw (q, e, word_is z) (frame_at (unsigned z))
 
--- the highest bit of a float changes
+-- The highest bit of a float changes. The library has no lemma of a carry out of the upper of two words.
 
 pub sign_flipped : (low high : ℕ) → low < 0x1_0000_0000 → high < 0x1_0000_0000 →
     low + 0x1_0000_0000 * ((high + 0x8000_0000) % 0x1_0000_0000) ≡ (low + 0x1_0000_0000 * high + 0x8000_0000_0000_0000) % 0x1_0000_0000_0000_0000

@@ -1,12 +1,13 @@
 -- What a parent looks at in a child's record.
 use Prim.Native.Nat.{ℕ, zero, suc, ◌-◌, ◌≤◌, ◌<◌}
 use mathlib.Core.Path.{◌≡◌, refl, sym, ◌∙◌}
-use mathlib.Core.Bool.{Bool, true, false, not, ◌&&◌, ◌||◌, and-false, false≢true}
+use mathlib.Core.Bool.{Bool, true, false, not, ◌&&◌, ◌||◌, and-false}
 use mathlib.Core.List.{List, [], ◌∷◌}
 use native.Mathlib.Omega.{arith}
 use lib.Dec.{T, ltb, eqb}
 use lib.ListN.{length, get_or}
 use borrow.Author.Tests.{eqb-true, eqb-false, ne_eqb}
+use Rattle.std.proofs.lemmas.Bool.{or_parts}
 use Rattle.hir.specs.Hir.{Rec}
 use Rattle.hir.specs.Tree.{Forest}
 use Rattle.hir.specs.declared.ExprKind.{ExprKind}
@@ -172,15 +173,11 @@ any_named : List ℕ → List ExprKind → Bool
 any_named F [] = false
 any_named F (x ∷ xs) = Named F (kind.Expr x) || any_named F xs
 
-neither : (a b : Bool) → (a || b) ≡ false → (a ≡ false) × (b ≡ false)
-neither true b e = absurd (false≢true (sym e))
-neither false b e = (refl, e)
-
 none_named : (F : List ℕ) (xs : List ExprKind) → any_named F xs ≡ false → (i : ℕ) → Named F (kind.Expr (get_or xs i expr.Call)) ≡ false
 unfolding any_named resolved
 none_named F [] e i = refl
-none_named F (x ∷ xs) e zero = (neither (Named F (kind.Expr x)) (any_named F xs) e).0
-none_named F (x ∷ xs) e (suc i) = none_named F xs (neither (Named F (kind.Expr x)) (any_named F xs) e).1 i
+none_named F (x ∷ xs) e zero = (or_parts (Named F (kind.Expr x)) (any_named F xs) e).0
+none_named F (x ∷ xs) e (suc i) = none_named F xs (or_parts (Named F (kind.Expr x)) (any_named F xs) e).1 i
 
 plain_unnamed : (F : List ℕ) → any_named F expr_kinds ≡ false
 unfolding any_named expr_kinds resolved

@@ -34,10 +34,12 @@ use operators::shape::Shape;
 use pcode::{Label, Op, PushValue};
 use script_records::kind::Kind;
 use script_records::layout::ScriptFile;
+use script_records::part::Part;
 use slice_words::NO_STRING;
 use tree::{Counts, Element, Trees};
 
-// An assignment whose value is discarded, or wanted.
+// An assignment whose value is discarded, or wanted. The flag is a value that the callers were given: a closure for the step would be chosen by the same `if`, at
+// each of the calls.
 pub fn assign_value(builder: &mut CodeBuilder, discard: bool, access: Access)
     ensures { (F : List ℕ) → Runs F (statement.assign_value discard (access_of access)) builder.old tt builder.new }
 {
@@ -48,7 +50,7 @@ pub fn assign_value(builder: &mut CodeBuilder, discard: bool, access: Access)
     }
 }
 
-// A constant as an expression: a literal needs no access.
+// A constant as an expression: a literal needs no access. By `for_constant` and `get_value` each literal of a long row would make one to be taken apart again.
 pub fn read_constant(context: &mut ScriptContext, c: ConstantKind)
     requires file_len_bound { length context.old.script.bytes.now ≤ 1048576 }
     requires t { T (constant_named context.old.script.bytes.now c) }
@@ -68,41 +70,32 @@ pub fn read_constant(context: &mut ScriptContext, c: ConstantKind)
     }
 }
 
-// The arguments without the Voids among the last, which generate nothing.
-fn without_voids<'a>(t: &Trees<'a>) -> Trees<'a>
-    ensures script { result.script ≡ t.now.script }
-    ensures unchanged { Unchanged (file_of t.now) t.now.script.layout t.now.part result.part }
-{
-    let mut left = *t;
-    while left.kind() == Kind::Void as u32 {
-        left = left.rest();
-    }
-    left
-}
-
-// Arguments run from the last to the first: the constants among the last of them are pushed here, without a call for each expression. What is left
-// is still to be generated.
+// Arguments run from the last to the first: the constants among the last of them are pushed here, without a call for each expression, and Voids generate
+// nothing. What is left is still to be generated.
 pub fn push_constants<'a>(t: &Trees<'a>, context: &mut ScriptContext) -> Trees<'a>
     requires { context.old.script ≡ t.now.script }
     ensures { Pushes t.now context.old result context.new }
 {
-    let mut left = without_voids(t);
-    while !left.is_empty() {
+    for tree in *t {
         if context.builder.state.refused.is_some() {
-            return left;
+            return tree;
         }
-        let tree = left.script.last_tree(left.part);
-        if tree.row.kind != Kind::Constant as u32 {
-            return left;
+        let row = tree.script.last_tree(tree.part).row;
+        if row.kind == Kind::Void as u32 {
+            continue;
         }
-        read_constant(context, constant(tree.row));
-        let before = Trees {
-            script: t.script,
-            part: tree.before,
-        };
-        left = without_voids(&before);
+        if row.kind != Kind::Constant as u32 {
+            return tree;
+        }
+        read_constant(context, constant(row));
     }
-    left
+    Trees {
+        script: t.script,
+        part: Part {
+            end: t.part.end - t.part.n,
+            n: 0,
+        },
+    }
 }
 
 // Break and Continue without a label emit nothing.
@@ -141,7 +134,7 @@ pub fn gen_target(context: &mut ScriptContext, target: EnumeratorTarget)
     }
 }
 
-// -2147483648 has no negative.
+// -2147483648 has no negative: `checked_neg` tells it.
 pub fn negate_integer(builder: &mut CodeBuilder, n: i32)
     ensures { (F : List ℕ) → Runs F (statement.negate_integer (unsigned n) (eqb (unsigned n) 0x8000_0000)) builder.old tt builder.new }
 {
@@ -166,6 +159,7 @@ pub fn frame_of(n: i32) -> u32
     n.cast_unsigned().saturating_sub(1) % 65536
 }
 
+// The flag is the record's own, and both callers have it as a value: without this function the `if` would stand in each.
 pub fn play_if(builder: &mut CodeBuilder, play: bool)
     ensures { (F : List ℕ) → Runs F (when play (steps.action Play)) builder.old tt builder.new }
 {
@@ -190,7 +184,8 @@ pub fn push_if(builder: &mut CodeBuilder, cases: u32)
     }
 }
 
-// An object field's key, a parameter's name; any other record has no name, which the list writes as this reference.
+// An object field's key, a parameter's name; any other record has no name, for which the words of a list have this reference. A function, since neither
+// Record nor u32 is of this crate, where their From could stand.
 pub fn name_of(root: Record) -> u32
     ensures { (F : List ℕ) (i : ℕ) → length F ≤ 1048576 → T (record_named F i root) → (text_in F result ≡ (param (rec_of F root)).name) × T (names_string F result) }
 {
@@ -259,6 +254,7 @@ pub fn has_hoisted(row: &Trees) -> bool
     false
 }
 
+// What counts a switch's labels and its cases: one `matches!` each, and a function over the variants that count would only wrap it.
 pub fn is_labelled(e: Element) -> bool
     ensures { from_bool result ≡ is_labelled (meant e) }
 {
@@ -271,16 +267,16 @@ pub fn is_case(e: Element) -> bool
     matches!(e, Element::Case)
 }
 
-// A function leaves a value if it has no name, or an empty one.
+// A function leaves a value if it has no name, or an empty one. In a script file the word of its name is 0 for none, and else one more than the string's number.
 pub fn leaves_value(script: &ScriptFile, name: u32) -> bool
     requires { script.now.layout ≡ layout_of script.now.bytes.now }
     ensures { let F = script.now.bytes.now in
         (z : ℕ) → moved (name_delta (cond (eqb name 0) [] (string_at F (layout_of F) (name - 1)))) z ≡ z + from_bool result }
 {
-    if name == 0 {
-        return true;
+    match name.checked_sub(1) {
+        Some(number) => script.string(number as usize).is_empty(),
+        None => true,
     }
-    script.string((name - 1) as usize).is_empty()
 }
 
 // The label of a switch's last Default, else its end.
@@ -295,7 +291,9 @@ pub fn default_label(end: u32, first: u32, n: Counts) -> u32
     }
 }
 
-// Whether the old value is left, and whether the new one is not.
+// Whether the old value is left, and whether the new one is not: one joins the two tests by `and`, the other by `or`, so that no constant or type tells them
+// apart. `==` in place of `matches!` would want a PartialEq of Affix for these two lines alone. They come from two places, the record of the
+// operator and the expression around it.
 pub fn keeps_old(affix: Affix, discard: bool) -> bool
     ensures { result ≡ (not discard && not (statement.is_prefix affix)) }
 {
@@ -306,11 +304,4 @@ pub fn leaves_none(affix: Affix, discard: bool) -> bool
     ensures { result ≡ (discard || not (statement.is_prefix affix)) }
 {
     discard || matches!(affix, Affix::Postfix)
-}
-
-pub fn word_of(n: usize) -> u32
-    requires { n < 65536 }
-    ensures { result ≡ n }
-{
-    n as u32
 }

@@ -1,11 +1,11 @@
 -- What each construct does, from what its steps do.
 use Prim.Native.Nat.{ℕ, ◌+◌}
-use mathlib.Core.Path.{◌≡◌, refl, sym, ap, ◌∙◌}
+use mathlib.Core.Path.{◌≡◌, sym, ◌∙◌}
 use mathlib.Core.List.{List}
-use mathlib.Core.Bool.{Bool, true, false, cond, not, ◌&&◌, ◌||◌}
+use mathlib.Core.Bool.{Bool, true, false, not, ◌&&◌, ◌||◌}
 use mathlib.Core.Option.{some}
-use native.Mathlib.Omega.{arith}
 use lib.Dec.{ltb}
+use Rattle.std.proofs.lemmas.Bool.{and_parts, not-true}
 use Rattle.hir.specs.declared.Affix.{Affix}
 use Rattle.hir.specs.Hir.{Str, EnumeratorTarget}
 use Rattle.pcode.specs.declared.Op.{Op}
@@ -33,11 +33,6 @@ use Rattle.rows.specs.Innermost.{Innermost}
 use Rattle.rows.proofs.Statements.{hoisted_each, others_each}
 use Rattle.statement.proofs.Rows.{same_does, exprs_each, discarded_each, fields_each, hoisted_none, statements_each, tests_each, elements_each}
 use Rattle.statement.proofs.Laws.{Testing, Switching, rec_is, none_at, values_law, drag_law, condition_law, present_law, has_tests, has_no_tests}
-
-both_false : (d q : Bool) → (not d && not q) ≡ true → (d ≡ false) × (q ≡ false)
-both_false false false e = (refl, refl)
-both_false false true e = absurd (omega (arith, ap (λ (x : Bool). cond {A = ℕ} x 1 0) e))
-both_false true q e = absurd (omega (arith, ap (λ (x : Bool). cond {A = ℕ} x 1 0) e))
 
 module _ {F : List ℕ} (l : Layout) (p : Part) {b : BuilderState} {w : List ℕ} where
   pub statements_arm : {b1 b2 : BuilderState} {w1 w2 : List ℕ} →
@@ -392,10 +387,10 @@ module _ {F : List ℕ} (l : Layout) (p : Part) {b : BuilderState} {w : List ℕ
       Does F (adjust_in_place (kid_at F p 0) o affix true) b2 w2 tt b3 w3 →
       Does F (adjust_in_place (kid_at F p 0) o affix discard) b w tt b3 w3
   kept_arm o affix discard e t d1 d2 d3 =
-      let k = both_false discard (is_prefix affix) (sym e ∙ t) in
+      let k = and_parts (not discard) (not (is_prefix affix)) (sym e ∙ t) in
       let old = old_arm d1 d2 in
       let rest = rw (after_then, after_done) at d3.same in
-      record { same = rw (k.0, k.1, after_then, ← old.same) rest; fine = d3.fine; named = λ n. d3.named (old.named n) }
+      record { same = rw (not-true discard k.0, not-true (is_prefix affix) k.1, after_then, ← old.same) rest; fine = d3.fine; named = λ n. d3.named (old.named n) }
 
   pub adjust_arm : {b2 b3 b4 b5 b6 : BuilderState} {w2 w3 w4 w5 w6 : List ℕ} →
       (o : Op) (affix : Affix) (discard : Bool) {x : Bool} {a0 a : Access} →

@@ -1,5 +1,5 @@
 -- What a part's last tree means, and rows that are empty or not.
-use Prim.Native.Nat.{ℕ, ◌+◌, ◌-◌, ◌≤◌, ◌<◌}
+use Prim.Native.Nat.{ℕ, ◌+◌, ◌-◌, ◌*◌, ◌≤◌, ◌<◌}
 use mathlib.Core.Path.{◌≡◌, refl, sym, ap, ◌∙◌}
 use mathlib.Core.List.{List, []}
 use mathlib.Core.Bool.{Bool, true, false, cond, not, ◌&&◌, ◌||◌}
@@ -7,7 +7,9 @@ use mathlib.Core.Logic.{◌⊎◌, inl, inr}
 use mathlib.Core.Option.{get_or, none, some}
 use native.Mathlib.Omega.{arith}
 use lib.Dec.{T, leb, ltb, eqb}
-use borrow.Author.Tests.{lt-ltb, ltb-true}
+use borrow.Author.Tests.{lt-ltb}
+use Rattle.std.proofs.Math.Facts.{ltb_yes}
+use Rattle.action_format.proofs.Tests.{and_first}
 use lib.IntN.{pos}
 use Rattle.std.specs.Int.{from_bool}
 use Rattle.decode.specs.Numbers.{unsigned}
@@ -38,7 +40,9 @@ use Rattle.tree.specs.declared.Node.{Node}
 use Rattle.tree.specs.declared.Element.{Element}
 use Rattle.tree.specs.declared.Element.TheVariants as code-element
 use Rattle.tree.specs.declared.Counts.{Counts}
-use Rattle.tree.specs.Trees.{trees, rec_of, element_of, meant, counts_of}
+use Rattle.tree.specs.declared.Trees.{Trees}
+use Rattle.tree.specs.Trees.{trees, rec_of, node_of, element_of, meant, counts_of}
+use Rattle.tree.specs.Handle.{file_of, parts_of}
 use Rattle.tree.specs.Within.{live, constant_named, record_named, Within, IsNode, IsList, meanings_at, kid_at, list_at}
 use Rattle.tree.proofs.Nodes.{is_node, trees_more, trees_none}
 use Rattle.tree.proofs.Meanings.{kid_zero, params_are, labelled_less}
@@ -51,9 +55,11 @@ use Rattle.std.specs.Prelude.{Some, IfSome, option_map, unwrap_or}
 use Rattle.lowering.specs.Access.{Direct, ◌gives◌}
 use Rattle.operators.specs.Shapes.{root_shape, constant_literal, shape_literal, shape_in}
 use Rattle.operators.proofs.Shapes.{shape_named}
+use Rattle.constants.specs.declared.context.ScriptContext.{ScriptContext}
 use Rattle.builder.specs.Labels.{labels_of_forest, elements_from}
 use Rattle.rows.specs.Rows.{cases_of, conditional}
 use Rattle.leaves.proofs.Args.{expr_any, expr_at}
+use Rattle.statement.specs.Walk.{Walk}
 use Rattle.statement.proofs.Rows.{has_case_is, has_label_is, labels_is, cases_is, default_is}
 
 -- a record that is no expression and stands for none, and one that is no statement, generate nothing
@@ -122,6 +128,15 @@ module _ {F : List ℕ} {l : Layout} {p : Part} {t : Node Part} (n : IsNode F l 
   pub condition_law : (p.n ≡ 0 → ⊥) → (end : ℕ) → gen_condition end (meanings_at F p) ≡ all_discarded (meanings_at F t.before) >> expr (kid_at F p 0) >> action Not >> branch end
   unfolding meanings
   condition_law z end = rw (trees_more F l p n (omega arith))
+
+-- the children of a node that is there are fewer records
+pub kids_less : (t : Trees) (n : Node Trees) → parts_of n ≡ node_of (file_of t) t.script.layout t.part → live n.root ≡ 1 → n.children.part.n < t.part.n
+kids_less t n e h = let i = is_node _ _ _ t.within e in omega (arith, i.apart, i.real, h)
+
+-- a call for them, at any place of the order
+pub in_kids : {t : Trees} {c : ScriptContext} {room m : ℕ} (n : Node Trees) (own at : ℕ) → at < 8 → 8 * t.part.n + own ≡ m → Walk t c room → n.children.script ≡ t.script → parts_of n ≡ node_of (file_of t) t.script.layout t.part → live n.root ≡ 1 →
+    (8 * n.children.part.n + at < m) × Walk n.children c room
+in_kids {t} n own at h d w e q v = let less = kids_less t n q v in (omega (arith, d, h, less), record { script = w.script ∙ sym e; fits = omega (arith, w.fits, less) })
 
 pub value_live : {r : Record} → (r ≡ kind.Case) ⊎ ((s : ℕ) × (r ≡ kind.ObjectField s)) → live r ≡ 1
 value_live (inl e) = ap live e
@@ -255,23 +270,15 @@ field_live kind.Default e = omega arith
 field_live kind.Other e = omega arith
 
 -- a function's number is that of a record
-both_true : (a b : Bool) → T (a && b) → a ≡ true
-both_true true b h = refl
-both_true false b h = elim h [ ]
-
 pub number_less : (F : List ℕ) (i : ℕ) → T (names_function F i) → i < (layout_of F).count
 unfolding names_function
-number_less F i h = ltb-true i (layout_of F).count (both_true (ltb i (layout_of F).count) _ h)
-
-pub bool_small : (b : Bool) → from_bool b ≤ 1
-bool_small true = omega arith
-bool_small false = omega arith
+number_less F i h = ltb_yes (and_first (ltb i (layout_of F).count) _ h)
 
 pub bit_is : (b : Bool) → unsigned (pos (from_bool b)) ≡ bit b
 bit_is true = refl
 bit_is false = refl
 
--- `adjust` with a value that is wanted passes its part on to itself with a value that is not
+-- `adjust` with a value that is wanted passes its part on to itself with a value that is not. The library has no lemma that bounds a choice of two numbers.
 pub rank_least : (d : Bool) → 3 ≤ cond d 3 4
 rank_least true = omega arith
 rank_least false = omega arith

@@ -2,12 +2,13 @@
 use Prim.Native.Nat.{ℕ, suc, ◌+◌, ◌-◌}
 use mathlib.Core.Path.{◌≡◌, refl, sym, ap, ◌∙◌}
 use mathlib.Core.List.{List, ◌∷◌}
-use mathlib.Core.Bool.{Bool, true, false, cond, not, ◌||◌}
+use mathlib.Core.Bool.{false, not, ◌||◌, or-true}
 use native.Mathlib.Omega.{arith}
 use native.Mathlib.Nat.{add-zero}
 use lib.Dec.{ltb}
 use borrow.Author.Tests.{lt-ltb}
 use Rattle.std.specs.Prelude.{Option, Some, None, option_map, unwrap_or}
+use Rattle.std.proofs.lemmas.Bool.{or_parts}
 use Rattle.hir.specs.Hir.{Rec}
 use Rattle.hir.specs.Tree.{Forest, more}
 use Rattle.pcode.specs.Pcode.{Value}
@@ -28,10 +29,6 @@ use Rattle.rows.specs.Rows.{one_case, cases_of, conditional, switch_element, eac
 
 pub same_does : {F : List ℕ} {b r : BuilderState} {w w' : List ℕ} (m n : Step) → Same m n → Does F n b w tt r w' → Does F m b w tt r w'
 same_does m n e d = record { same = d.same ∙ sym (e _); fine = d.fine; named = d.named }
-
-neither : (a b : Bool) → (a || b) ≡ false → (a ≡ false) × (b ≡ false)
-neither false b e = (refl, e)
-neither true b e = absurd (omega (arith, ap (λ (x : Bool). cond {A = ℕ} x 1 0) e))
 
 module _ (lp : Loop) (f d : ℕ) where
   pub exprs_each : (ms : Forest Meaning) → Same (exprs ms) (each_of Expr lp f d ms)
@@ -64,14 +61,14 @@ module _ (lp : Loop) (f d : ℕ) where
   unfolding each_of any_hoisted
   hoisted_none Forest.none e v = refl
   hoisted_none (more ms m kids) e v =
-      let h = neither (hoisted m.rec kids) (any_hoisted ms) e in
+      let h = or_parts (hoisted m.rec kids) (any_hoisted ms) e in
       rw (after_then v (each_of Hoisted lp f d ms) (when (hoisted m.rec kids) (m.gen_statement lp)), h.0) (after_done (after v (each_of Hoisted lp f d ms)) ∙ hoisted_none ms h.1 v)
 
   pub statements_each : (ms : Forest Meaning) → any_hoisted ms ≡ false → Same (each_of Unhoisted lp f d ms) (each_of Statement lp f d ms)
   unfolding each_of any_hoisted
   statements_each Forest.none e v = refl
   statements_each (more ms m kids) e v =
-      let h = neither (hoisted m.rec kids) (any_hoisted ms) e in
+      let h = or_parts (hoisted m.rec kids) (any_hoisted ms) e in
       rw (
         after_then v (each_of Unhoisted lp f d ms) (when (not (hoisted m.rec kids)) (m.gen_statement lp)),
         after_then v (each_of Statement lp f d ms) (m.gen_statement lp),
@@ -81,17 +78,10 @@ module _ (lp : Loop) (f d : ℕ) where
 
 -- a switch's elements
 
-or_true : (a : Bool) → (a || true) ≡ true
-or_true true = refl
-or_true false = refl
-
-more_than : (n : ℕ) → ltb 0 (n + 1) ≡ true
-more_than n = lt-ltb 0 (n + 1) (omega arith)
-
 module _ (f : ℕ) where
   case_at : (ms : Forest Meaning) (m : Meaning) (e : meaning.Element) → has_case (elements_from f ms) ≡ ltb 0 (cases_of ms) →
       has_case (with_number (f + labels_of_forest ms) m e ∷ elements_from f ms) ≡ ltb 0 (cases_of ms + one_case e)
-  case_at ms m meaning.case h = sym (more_than (cases_of ms))
+  case_at ms m meaning.case h = sym (lt-ltb 0 (cases_of ms + 1) (omega arith))
   case_at ms m meaning.default h = rw (add-zero (cases_of ms)) h
   case_at ms m meaning.statement h = rw (add-zero (cases_of ms)) h
 
@@ -102,8 +92,8 @@ module _ (f : ℕ) where
 
   label_at : (ms : Forest Meaning) (m : Meaning) (e : meaning.Element) → (has_case (elements_from f ms) || has_default (elements_from f ms)) ≡ ltb 0 (labels_of_forest ms) →
       (has_case (with_number (f + labels_of_forest ms) m e ∷ elements_from f ms) || has_default (with_number (f + labels_of_forest ms) m e ∷ elements_from f ms)) ≡ ltb 0 (labels_of_forest ms + one_label e)
-  label_at ms m meaning.case h = sym (more_than (labels_of_forest ms))
-  label_at ms m meaning.default h = or_true (has_case (elements_from f ms)) ∙ sym (more_than (labels_of_forest ms))
+  label_at ms m meaning.case h = sym (lt-ltb 0 (labels_of_forest ms + 1) (omega arith))
+  label_at ms m meaning.default h = or-true (has_case (elements_from f ms)) ∙ sym (lt-ltb 0 (labels_of_forest ms + 1) (omega arith))
   label_at ms m meaning.statement h = rw (add-zero (labels_of_forest ms)) h
 
   pub has_label_is : (ms : Forest Meaning) → (has_case (elements_from f ms) || has_default (elements_from f ms)) ≡ ltb 0 (labels_of_forest ms)

@@ -2,8 +2,13 @@
 
 // Statements, expressions, accesses and function bodies (`statement.rs`). They call each other in a ring: a call goes to a part of fewer records, or to the
 // same part further down in this order: the constructs, gen_statements, each and args, one, for_expr, gen_expr and gen_statement.
-// Each takes the trees, the last of which (or all of which) it generates, the context, and a scratch slice.
+// Each takes the trees, the last of which (or all of which) it generates, the context, and a scratch slice, which the caller lends since there is no heap.
+// They are three parameters, and no struct with methods. `each` lends on the part of the slice behind the ends that it still needs, together with the whole
+// context: a struct of the two would be made anew there, of what it holds by `&mut`, and then each contract would have to say that the context and the slice come
+// back to the caller's places, as `same_list` says of the words. `Walk` holds between the three, so that it is a ghost field of none of them. The loop around,
+// whether a value is wanted, and the step of a row change from call to call.
 ghost use Rattle.std.specs.Prelude.{◌≡◌, ◌+◌, ◌≤◌, ◌<◌, T, length};
+ghost use Rattle.std.specs.Int.{from_bool};
 ghost use Rattle.pcode.specs.Pcode.{moved};
 ghost use Rattle.script_records.specs.Layout.{layout_of, string_at};
 ghost use Rattle.script.specs.Resolve.{condition_over};
@@ -100,6 +105,8 @@ fn each(
     }
 }
 
+// The step of a row is an enum, and no closure: these functions call each other in a ring, where a call through a closure gets no proof, and a function may not
+// make one and hand it out.
 #[cycle(ring)]
 fn one(
     t: &Trees,
@@ -465,7 +472,7 @@ fn gen_expr(t: &Trees, context: &mut ScriptContext, scratch: &mut [usize], disca
                 marks,
             } => {
                 let up = leaves_value(&t.script, name);
-                gen_function(&kids, context, scratch, node.number, u32::from(up));
+                gen_function(&kids, context, scratch, node.number, up);
             }
             ExprKind::GotoFrame(play) => goto(&kids, context, scratch, play),
             ExprKind::StartDrag(lock) => drag(&kids, context, scratch, lock),
@@ -677,7 +684,7 @@ fn gen_ternary(t: &Trees, context: &mut ScriptContext, scratch: &mut [usize])
     context.builder.assume_stack_delta(1);
 }
 
-// `gen_call`, and `gen_new`.
+// `gen_call`, and `gen_new`: `new` is asked once, at the last step, which needs the access that is made before it, so that a closure would ask the same.
 #[cycle(ring)]
 fn gen_call(t: &Trees, context: &mut ScriptContext, scratch: &mut [usize], new: bool)
     requires { Walk t.now context.old (length scratch.old) }
@@ -702,13 +709,12 @@ fn args(t: &Trees, context: &mut ScriptContext, scratch: &mut [usize], n: u32)
     requires n_value { n ≡ width (trees_of t.now) }
     ensures { Walks t.now (statement.gen_arguments (meanings_of t.now)) context.old tt context.new }
 {
-    let mut left = push_constants(t, context);
-    while !left.is_empty() {
+    let left = push_constants(t, context);
+    for tree in left {
         if context.builder.state.refused.is_some() {
             return;
         }
-        gen_expr(&left, context, scratch, false);
-        left = left.rest();
+        gen_expr(&tree, context, scratch, false);
     }
     push_count(&mut context.builder, n)
 }
@@ -771,16 +777,17 @@ fn gen_function(
     context: &mut ScriptContext,
     scratch: &mut [usize],
     number: usize,
-    up: u32,
+    up: bool,
 )
     requires walk { Walk t.now context.old (length scratch.old) }
     requires number_bound { number < 65536 }
-    requires up_bound { up ≤ 1 }
-    ensures { T (names_function (file_of t.now) number) → moved (define_delta (header_in (file_of t.now) number)) context.old.builder.state.size ≡ context.old.builder.state.size + up → Walks t.now (define_function (header_in (file_of t.now) number) (statement.gen_statements statement.no_loop (list_of t.now 0))) context.old tt context.new }
+    ensures { T (names_function (file_of t.now) number) → moved (define_delta (header_in (file_of t.now) number)) context.old.builder.state.size ≡ context.old.builder.state.size + from_bool up → Walks t.now (define_function (header_in (file_of t.now) number) (statement.gen_statements statement.no_loop (list_of t.now 0))) context.old tt context.new }
 {
     let body = t.list(0);
     let outer = context.builder.begin_function();
     let idle = no_loop();
     gen_statements(&body, context, scratch, idle);
-    context.builder.end_function(outer, number as u32, up);
+    context
+        .builder
+        .end_function(outer, number as u32, u32::from(up));
 }

@@ -1,11 +1,8 @@
-use mathlib.Core.Path.{◌≡◌, refl, ◌∙◌}
+use mathlib.Core.Path.{◌≡◌, ◌∙◌}
 use Rattle.lowering.specs.Meaning.{hoisted}
 use Rattle.tree.specs.Within.{kid_at, list_at}
 use Rattle.leaves.proofs.Hoisting.{looked_all, looked_found, looked_more}
 use Rattle.leaves.proofs.has_hoisted.Goals as goal
-
-pub loop-tree-init : goal.loop-tree-init
-loop-tree-init c = rw c.into_iter-tree-iterator.ensures.into_iter_gives (refl, refl)
 
 pub returns-then-is_hoisted : goal.returns-then-is_hoisted
 returns-then-is_hoisted c =

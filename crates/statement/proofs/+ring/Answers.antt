@@ -1,6 +1,8 @@
+-- Tried without these answers: the check of the ring's 305 goals had not ended after ten minutes, and with them it takes one. Each goal has names of its own, so
+-- that goals with one proof have an answer each; what they share is a lemma, as `in_kids` for a call with a node's children.
 use Rattle.statement.proofs.Arms.{statements_arm, unhoisted_arm, field_arm, test_arm, block_arm, local_arm, local_none_arm, no_values_arm, values_arm, switch_arm, switch_cases_arm, no_tests_arm, tests_arm, while_arm, for_in_arm, for_loop_arm, ends_arm, if_both_arm, if_one_arm, void_arm, trivial_arm, trivial_not_arm, trivial_assign_arm, assign_arm, and_arm, or_arm, bit_not_arm, not_arm, minus_arm, adjust_arm, kept_arm, delete_arm, ternary_arm, array_arm, object_arm, copy_arm, goto_label_arm, goto_frame_arm, goto_arm, drag_arm, drag_within_arm, get_property_arm, set_property_arm, call_arm, new_arm, direct_arm, object_access_arm}
 use borrow.Author.Rules.{rules}
-use borrow.Author.Tests.{not-true, lt-ltb}
+use borrow.Author.Tests.{not-true, lt-ltb, eqb-false}
 use native.Mathlib.Omega.{arith}
 use Prim.Native.Nat.{◌+◌}
 use mathlib.Core.Path.{refl, sym, ap, ◌∙◌}
@@ -22,8 +24,9 @@ use Rattle.operators.proofs.Shapes.{shape_is, literal_is, shape_named}
 use Rattle.builder.proofs.Body.{ready, function_done}
 use Rattle.access.proofs.Texts.{text_is}
 use Rattle.rows.specs.Rows.{loop_of}
-use Rattle.leaves.proofs.Args.{some_left, expr_at, args_again, args_less, args_stopped, args_done}
-use Rattle.statement.proofs.Laws.{rec_is, element_at, value_at, value_live, no_expr, statement_at, no_statement, untested, access_at, literal_of, none_at, labels_counted, labels_less, default_less, switching, no_labels, some_labels, function_at, function_size, literal_named, field_live, number_less, plain_access, bool_small, bit_is, rank_least, rank_most, rank_kept}
+use Rattle.rows.proofs.Kept.{one_most}
+use Rattle.leaves.proofs.Args.{expr_at, args_again, args_stopped, args_done}
+use Rattle.statement.proofs.Laws.{rec_is, element_at, value_at, value_live, no_expr, statement_at, no_statement, untested, access_at, literal_of, none_at, labels_counted, labels_less, default_less, switching, no_labels, some_labels, function_at, function_size, literal_named, field_live, kids_less, in_kids, number_less, plain_access, bit_is, rank_least, rank_most, rank_kept}
 use Rattle.statement.proofs.Walks.{start, walked, acted, built, pushed, walks, walk}
 use Rattle.builder.proofs.Runs.{same_list_then, keeps_then, index_stays}
 use Rattle.statement.proofs.Lists.{pop_holds, pop_top, pop_inside, pop_fits, pop_below, pop_few, pop_again, pop_stopped, pop_done, element_few}
@@ -57,36 +60,40 @@ pub adjust-returns-then-keeps_old : goal.adjust-returns-then-keeps_old
 adjust-returns-then-keeps_old t c = walks (walked c.adjust.ensures (built {d = c.for_expr-old.new.context} (c.get_value.ensures (file_of c.args.t.now)).keeps.list (walked c.for_expr-old.ensures start))) (kept_arm c.args.t.now.script.layout c.args.t.now.part c.args.o c.args.affix c.args.discard c.keeps_old.ensures c.if-keeps_old.true c.for_expr-old.ensures.does (c.get_value.ensures (file_of c.args.t.now)).does c.adjust.ensures.does)
 
 pub args-gen_expr-requires : goal.args-gen_expr-requires
-args-gen_expr-requires t c = (omega (arith, c.decreases, c.loop-left.invariant.0.args.fewer), record { script = c.loop-left.invariant.0.script ∙ c.requires.walk.script ∙ sym c.loop-left.invariant.0.trees; fits = omega (arith, c.loop-left.invariant.0.args.fewer, c.requires.walk.fits, c.loop-left.invariant.1) })
+args-gen_expr-requires t c =
+    let i = c.loop-tree.invariant in
+    rw c.in-Some.ensures.steps.0 (omega (arith, c.decreases, i.0.args.fewer), record { script = i.0.script ∙ c.requires.walk.script ∙ sym i.0.trees; fits = omega (arith, i.0.args.fewer, c.requires.walk.fits, i.1) })
 
 pub args-invariant_of-context : goal.args-invariant_of-context
-args-invariant_of-context t c = record { laid_out = c.loop-left.context.laid_out; indexed = index_stays (c.push_count.ensures (file_of c.args.t.now)).keeps.pool c.loop-left.context.indexed }
+args-invariant_of-context t c = record { laid_out = c.loop-tree.context.laid_out; indexed = index_stays (c.push_count.ensures (file_of c.args.t.now)).keeps.pool c.loop-tree.context.indexed }
 
-pub args-loop-left-init : goal.args-loop-left-init
-args-loop-left-init t c = (c.push_constants-left.ensures, refl)
+pub args-loop-tree-init : goal.args-loop-tree-init
+args-loop-tree-init t c = rw c.into_iter-tree-iterator.ensures.into_iter_gives (c.push_constants-left.ensures, refl)
 
-pub args-loop-left-preserved : goal.args-loop-left-preserved
-args-loop-left-preserved t c = (
-  record {
-    trees = c.rest-left.ensures.script ∙ c.loop-left.invariant.0.trees;
-    script = c.gen_expr.ensures.script ∙ c.loop-left.invariant.0.script;
-    same_list = same_list_then c.loop-left.invariant.0.same_list c.gen_expr.ensures.same_list;
-    args = args_again c.loop-left.invariant.0.args (some_left c.loop-left-test.ensures) (rw c.loop-left.invariant.0.trees at c.rest-left.ensures.part) (rw c.loop-left.invariant.0.trees at c.gen_expr.ensures.does) c.gen_expr.ensures.same_list.long;
-  },
-  c.gen_expr.auto.scratch ∙ c.loop-left.invariant.1,
-)
-
-pub args-loop-left-smaller : goal.args-loop-left-smaller
-args-loop-left-smaller t c = args_less c.loop-left.invariant.0.args (some_left c.loop-left-test.ensures) (rw c.loop-left.invariant.0.trees at c.rest-left.ensures.part)
+pub args-loop-tree-preserved : goal.args-loop-tree-preserved
+args-loop-tree-preserved t c =
+    let i = c.loop-tree.invariant in
+    let s = c.in-Some.ensures.steps in
+    let e = c.gen_expr.ensures in (
+      record {
+        trees = s.2.script ∙ i.0.trees;
+        script = e.script ∙ i.0.script;
+        same_list = same_list_then i.0.same_list e.same_list;
+        args = args_again i.0.args (omega (arith, s.1)) (rw i.0.trees at s.2.part) (rw (s.0, i.0.trees) at e.does) e.same_list.long;
+      },
+      c.gen_expr.auto.scratch ∙ i.1,
+    )
 
 pub args-push_constants-left-requires : goal.args-push_constants-left-requires
 args-push_constants-left-requires t c = c.requires.walk.script
 
 pub args-returns : goal.args-returns
-args-returns t c = walks (built {d = c.loop-left.context} (c.push_count.ensures (file_of c.args.t.now)).keeps.list (pushed c.loop-left.invariant.0)) (args_done c.loop-left.invariant.0.args (no_trees c.loop-left-test.ensures) c.args.n c.requires.n_value (c.push_count.ensures (file_of c.args.t.now)).does)
+args-returns t c =
+    let i = c.loop-tree.invariant.0 in
+    walks (built {d = c.loop-tree.context} (c.push_count.ensures (file_of c.args.t.now)).keeps.list (pushed i)) (args_done i.args c.in-None.ensures.steps.0 c.args.n c.requires.n_value (c.push_count.ensures (file_of c.args.t.now)).does)
 
 pub args-returns-then-is_some : goal.args-returns-then-is_some
-args-returns-then-is_some t c = walks (pushed c.loop-left.invariant.0) (args_stopped c.loop-left.invariant.0.args (sym c.if-is_some.ensures))
+args-returns-then-is_some t c = walks (pushed c.loop-tree.invariant.0) (args_stopped c.loop-tree.invariant.0.args (sym c.if-is_some.ensures))
 
 pub drag-each-requires : goal.drag-each-requires
 drag-each-requires t c = (omega (arith, c.decreases, c.requires.fits, c.kid-target.ensures.kid.fewer, c.list-es.ensures.list.fewer), (walk start (c.requires.script ∙ sym c.list-es.ensures.script) (omega (arith, c.requires.fits, c.kid-target.ensures.kid.fewer, c.list-es.ensures.list.fewer)), omega (arith, c.requires.fits, c.kid-target.ensures.kid.fewer, c.list-es.ensures.list.fewer, c.args.t.now.within.known, c.args.t.now.within.sound.few, c.args.t.now.within.inside)))
@@ -110,7 +117,7 @@ pub drag-invariant_of-context-then-is_empty : goal.drag-invariant_of-context-the
 drag-invariant_of-context-then-is_empty t c = record { laid_out = c.gen_expr.new.context.laid_out; indexed = index_stays (c.action_down.ensures (file_of c.args.t.now)).keeps.pool c.gen_expr.new.context.indexed }
 
 pub drag-returns : goal.drag-returns
-drag-returns t c = walks (built {d = c.gen_expr-2.new.context} (c.action_down-2.ensures (file_of c.args.t.now)).keeps.list (walked c.gen_expr-2.ensures (built {d = c.each.new.context} (keeps_then c.push-2.ensures.keeps c.push-3.ensures.keeps).list (walked c.each.ensures start)))) (drag_within_arm c.args.t.now.script.layout c.args.t.now.part (loop_of c.no_loop-idle.result) c.args.lock c.kid-target.ensures.kid c.list-es.ensures.list (some_left c.if-is_empty.ensures) (rw c.list-es.ensures.script at c.each.ensures.does) (c.push-2.ensures.runs (file_of c.args.t.now) tt).does (rw (to_z-of_z w32 _ (record { sfits = c.from-bit.type_inv }), c.from-bit.ensures, bit_is c.args.lock) at (c.push-3.ensures.runs (file_of c.args.t.now) tt).does) (rw c.kid-target.ensures.script at c.gen_expr-2.ensures.does) (c.action_down-2.ensures (file_of c.args.t.now)).does)
+drag-returns t c = walks (built {d = c.gen_expr-2.new.context} (c.action_down-2.ensures (file_of c.args.t.now)).keeps.list (walked c.gen_expr-2.ensures (built {d = c.each.new.context} (keeps_then c.push-2.ensures.keeps c.push-3.ensures.keeps).list (walked c.each.ensures start)))) (drag_within_arm c.args.t.now.script.layout c.args.t.now.part (loop_of c.no_loop-idle.result) c.args.lock c.kid-target.ensures.kid c.list-es.ensures.list (eqb-false _ 0 (sym c.if-is_empty.ensures)) (rw c.list-es.ensures.script at c.each.ensures.does) (c.push-2.ensures.runs (file_of c.args.t.now) tt).does (rw (to_z-of_z w32 _ (record { sfits = c.from-bit.type_inv }), c.from-bit.ensures, bit_is c.args.lock) at (c.push-3.ensures.runs (file_of c.args.t.now) tt).does) (rw c.kid-target.ensures.script at c.gen_expr-2.ensures.does) (c.action_down-2.ensures (file_of c.args.t.now)).does)
 
 pub drag-returns-then-is_empty : goal.drag-returns-then-is_empty
 drag-returns-then-is_empty t c = walks (built {d = c.gen_expr.new.context} (c.action_down.ensures (file_of c.args.t.now)).keeps.list (walked c.gen_expr.ensures (built {d = c.args.context.now} (keeps_then c.push.ensures.keeps c.push-then-is_empty.ensures.keeps).list start))) (drag_arm c.args.t.now.script.layout c.args.t.now.part c.args.lock c.kid-target.ensures.kid c.list-es.ensures.list (no_trees c.if-is_empty.ensures) (c.push.ensures.runs (file_of c.args.t.now) tt).does (rw (to_z-of_z w32 _ (record { sfits = c.from-bit.type_inv }), c.from-bit.ensures, bit_is c.args.lock) at (c.push-then-is_empty.ensures.runs (file_of c.args.t.now) tt).does) (rw c.kid-target.ensures.script at c.gen_expr.ensures.does) (c.action_down.ensures (file_of c.args.t.now)).does)
@@ -179,7 +186,7 @@ pub ends-invariant_of-context : goal.ends-invariant_of-context
 ends-invariant_of-context t c = record { laid_out = c.gen_expr.new.context.laid_out; indexed = index_stays (keeps_then (c.action.ensures (file_of c.args.t.now)).keeps (c.branch-context.ensures (file_of c.args.t.now)).keeps).pool c.gen_expr.new.context.indexed }
 
 pub ends-returns : goal.ends-returns
-ends-returns t c = walks (built {d = c.gen_expr.new.context} (keeps_then (c.action.ensures (file_of c.args.t.now)).keeps (c.branch-context.ensures (file_of c.args.t.now)).keeps).list (walked c.gen_expr.ensures (walked c.each.ensures start))) (ends_arm c.args.t.now.script.layout c.args.t.now.part (loop_of c.no_loop-idle.result) c.args.end.0 (is_node _ _ _ c.args.t.now.within refl) (some_left c.if-is_empty.ensures) (rw (c.rest-before.ensures.script, c.rest-before.ensures.part) at c.each.ensures.does) c.gen_expr.ensures.does (c.action.ensures (file_of c.args.t.now)).does (c.branch-context.ensures (file_of c.args.t.now)).does)
+ends-returns t c = walks (built {d = c.gen_expr.new.context} (keeps_then (c.action.ensures (file_of c.args.t.now)).keeps (c.branch-context.ensures (file_of c.args.t.now)).keeps).list (walked c.gen_expr.ensures (walked c.each.ensures start))) (ends_arm c.args.t.now.script.layout c.args.t.now.part (loop_of c.no_loop-idle.result) c.args.end.0 (is_node _ _ _ c.args.t.now.within refl) (eqb-false _ 0 (sym c.if-is_empty.ensures)) (rw (c.rest-before.ensures.script, c.rest-before.ensures.part) at c.each.ensures.does) c.gen_expr.ensures.does (c.action.ensures (file_of c.args.t.now)).does (c.branch-context.ensures (file_of c.args.t.now)).does)
 
 pub ends-returns-then-is_empty : goal.ends-returns-then-is_empty
 ends-returns-then-is_empty t c = walks start (rw (none_at (file_of c.args.t.now) c.args.t.now.part (no_trees c.if-is_empty.ensures)) (idle c.args.context.now.builder.fine))
@@ -194,7 +201,7 @@ pub exit-invariant_of-context-2 : goal.exit-invariant_of-context-2
 exit-invariant_of-context-2 t c = record { laid_out = c.each.new.context.laid_out; indexed = index_stays (c.action-2.ensures (file_of c.args.t.now)).keeps.pool c.each.new.context.indexed }
 
 pub exit-returns : goal.exit-returns
-exit-returns t c = walks (built {d = c.each.new.context} (c.action-2.ensures (file_of c.args.t.now)).keeps.list (walked c.each.ensures start)) (values_arm c.args.t.now.script.layout c.args.t.now.part (loop_of c.no_loop-idle.result) c.list-es.ensures.list (some_left c.if-is_empty.ensures) c.args.o (rw c.list-es.ensures.script at c.each.ensures.does) (c.action-2.ensures (file_of c.args.t.now)).does)
+exit-returns t c = walks (built {d = c.each.new.context} (c.action-2.ensures (file_of c.args.t.now)).keeps.list (walked c.each.ensures start)) (values_arm c.args.t.now.script.layout c.args.t.now.part (loop_of c.no_loop-idle.result) c.list-es.ensures.list (eqb-false _ 0 (sym c.if-is_empty.ensures)) c.args.o (rw c.list-es.ensures.script at c.each.ensures.does) (c.action-2.ensures (file_of c.args.t.now)).does)
 
 pub exit-returns-then-is_empty : goal.exit-returns-then-is_empty
 exit-returns-then-is_empty t c = walks (built {d = c.args.context.now} (keeps_then c.push.ensures.keeps (c.action.ensures (file_of c.args.t.now)).keeps).list start) (no_values_arm c.args.t.now.script.layout c.args.t.now.part c.list-es.ensures.list (no_trees c.if-is_empty.ensures) c.args.o (c.push.ensures.runs (file_of c.args.t.now) tt).does (c.action.ensures (file_of c.args.t.now)).does)
@@ -320,64 +327,64 @@ pub gen_call-returns-then-new : goal.gen_call-returns-then-new
 gen_call-returns-then-new t c = walks (built {d = c.for_expr-access.new.context} (c.call_new.ensures (file_of c.args.t.now)).keeps.list (walked c.for_expr-access.ensures (walked c.args-2.ensures start))) (rw c.if-new.true (new_arm c.args.t.now.script.layout c.args.t.now.part c.kid-name.ensures.kid c.list-es.ensures.list c.width-n.result (rw c.list-es.ensures.script at c.width-n.ensures) (rw c.list-es.ensures.script at c.args-2.ensures.does) (rw c.kid-name.ensures.script at c.for_expr-access.ensures.does) (c.call_new.ensures (file_of c.args.t.now)).does))
 
 pub gen_expr-args-requires : goal.gen_expr-args-requires
-gen_expr-args-requires t c = (omega (arith, c.decreases, c.requires.fits, (is_node _ _ _ c.args.t.now.within c.node-node.ensures.node).apart, (is_node _ _ _ c.args.t.now.within c.node-node.ensures.node).real, ap live c.in-Expr.is, c.list-es-in-InitArray.ensures.list.fewer), (walk start (c.requires.script ∙ sym (c.list-es-in-InitArray.ensures.script ∙ c.node-node.ensures.children)) (omega (arith, c.requires.fits, (is_node _ _ _ c.args.t.now.within c.node-node.ensures.node).apart, (is_node _ _ _ c.args.t.now.within c.node-node.ensures.node).real, ap live c.in-Expr.is, c.list-es-in-InitArray.ensures.list.fewer)), c.width-n-in-InitArray.ensures))
+gen_expr-args-requires t c = (omega (arith, c.decreases, c.requires.fits, kids_less c.args.t.now c.node-node.result c.node-node.ensures.node (ap live c.in-Expr.is), c.list-es-in-InitArray.ensures.list.fewer), (walk start (c.requires.script ∙ sym (c.list-es-in-InitArray.ensures.script ∙ c.node-node.ensures.children)) (omega (arith, c.requires.fits, kids_less c.args.t.now c.node-node.result c.node-node.ensures.node (ap live c.in-Expr.is), c.list-es-in-InitArray.ensures.list.fewer)), c.width-n-in-InitArray.ensures))
 
 pub gen_expr-drag-requires : goal.gen_expr-drag-requires
-gen_expr-drag-requires t c = (omega (arith, c.decreases, c.requires.fits, (is_node _ _ _ c.args.t.now.within c.node-node.ensures.node).apart, (is_node _ _ _ c.args.t.now.within c.node-node.ensures.node).real, ap live c.in-Expr.is), walk start (c.requires.script ∙ sym c.node-node.ensures.children) (omega (arith, c.requires.fits, (is_node _ _ _ c.args.t.now.within c.node-node.ensures.node).apart, (is_node _ _ _ c.args.t.now.within c.node-node.ensures.node).real, ap live c.in-Expr.is)))
+gen_expr-drag-requires t c = in_kids c.node-node.result 0 5 (omega arith) c.decreases c.requires c.node-node.ensures.children c.node-node.ensures.node (ap live c.in-Expr.is)
 
 pub gen_expr-each-requires : goal.gen_expr-each-requires
-gen_expr-each-requires t c = (omega (arith, c.decreases, c.requires.fits, (is_node _ _ _ c.args.t.now.within c.node-node.ensures.node).apart, (is_node _ _ _ c.args.t.now.within c.node-node.ensures.node).real, ap live c.in-Expr.is), (walk start (c.requires.script ∙ sym c.node-node.ensures.children) (omega (arith, c.requires.fits, (is_node _ _ _ c.args.t.now.within c.node-node.ensures.node).apart, (is_node _ _ _ c.args.t.now.within c.node-node.ensures.node).real, ap live c.in-Expr.is)), omega (arith, c.requires.fits, (is_node _ _ _ c.args.t.now.within c.node-node.ensures.node).apart, (is_node _ _ _ c.args.t.now.within c.node-node.ensures.node).real, ap live c.in-Expr.is, c.args.t.now.within.known, c.args.t.now.within.sound.few, c.args.t.now.within.inside)))
+gen_expr-each-requires t c = let i = in_kids c.node-node.result 0 3 (omega arith) c.decreases c.requires c.node-node.ensures.children c.node-node.ensures.node (ap live c.in-Expr.is) in (i.0, (i.1, omega (arith, i.1.fits, c.requires.fits, kids_less c.args.t.now c.node-node.result c.node-node.ensures.node (ap live c.in-Expr.is), c.args.t.now.within.known, c.args.t.now.within.sound.few, c.args.t.now.within.inside)))
 
 pub gen_expr-each-requires-in-Field : goal.gen_expr-each-requires-in-Field
-gen_expr-each-requires-in-Field t c = (omega (arith, c.decreases, c.requires.fits, (is_node _ _ _ c.args.t.now.within c.node-node.ensures.node).apart, (is_node _ _ _ c.args.t.now.within c.node-node.ensures.node).real, ap live c.in-Expr.is), (walk start (c.requires.script ∙ sym c.node-node.ensures.children) (omega (arith, c.requires.fits, (is_node _ _ _ c.args.t.now.within c.node-node.ensures.node).apart, (is_node _ _ _ c.args.t.now.within c.node-node.ensures.node).real, ap live c.in-Expr.is)), omega (arith, c.requires.fits, (is_node _ _ _ c.args.t.now.within c.node-node.ensures.node).apart, (is_node _ _ _ c.args.t.now.within c.node-node.ensures.node).real, ap live c.in-Expr.is, c.args.t.now.within.known, c.args.t.now.within.sound.few, c.args.t.now.within.inside)))
+gen_expr-each-requires-in-Field t c = let i = in_kids c.node-node.result 0 3 (omega arith) c.decreases c.requires c.node-node.ensures.children c.node-node.ensures.node (ap live c.in-Expr.is) in (i.0, (i.1, omega (arith, i.1.fits, c.requires.fits, kids_less c.args.t.now c.node-node.result c.node-node.ensures.node (ap live c.in-Expr.is), c.args.t.now.within.known, c.args.t.now.within.sound.few, c.args.t.now.within.inside)))
 
 pub gen_expr-each-requires-in-InitObject : goal.gen_expr-each-requires-in-InitObject
-gen_expr-each-requires-in-InitObject t c = (omega (arith, c.decreases, c.requires.fits, (is_node _ _ _ c.args.t.now.within c.node-node.ensures.node).apart, (is_node _ _ _ c.args.t.now.within c.node-node.ensures.node).real, ap live c.in-Expr.is, c.list-es.ensures.list.fewer), (walk start (c.requires.script ∙ sym (c.list-es.ensures.script ∙ c.node-node.ensures.children)) (omega (arith, c.requires.fits, (is_node _ _ _ c.args.t.now.within c.node-node.ensures.node).apart, (is_node _ _ _ c.args.t.now.within c.node-node.ensures.node).real, ap live c.in-Expr.is, c.list-es.ensures.list.fewer)), omega (arith, c.requires.fits, (is_node _ _ _ c.args.t.now.within c.node-node.ensures.node).apart, (is_node _ _ _ c.args.t.now.within c.node-node.ensures.node).real, ap live c.in-Expr.is, c.list-es.ensures.list.fewer, c.args.t.now.within.known, c.args.t.now.within.sound.few, c.args.t.now.within.inside)))
+gen_expr-each-requires-in-InitObject t c = (omega (arith, c.decreases, c.requires.fits, kids_less c.args.t.now c.node-node.result c.node-node.ensures.node (ap live c.in-Expr.is), c.list-es.ensures.list.fewer), (walk start (c.requires.script ∙ sym (c.list-es.ensures.script ∙ c.node-node.ensures.children)) (omega (arith, c.requires.fits, kids_less c.args.t.now c.node-node.result c.node-node.ensures.node (ap live c.in-Expr.is), c.list-es.ensures.list.fewer)), omega (arith, c.requires.fits, kids_less c.args.t.now c.node-node.result c.node-node.ensures.node (ap live c.in-Expr.is), c.list-es.ensures.list.fewer, c.args.t.now.within.known, c.args.t.now.within.sound.few, c.args.t.now.within.inside)))
 
 pub gen_expr-for_expr-access-requires : goal.gen_expr-for_expr-access-requires
-gen_expr-for_expr-access-requires t c = (omega (arith, c.decreases, c.requires.fits, (is_node _ _ _ c.args.t.now.within c.node-node.ensures.node).apart, (is_node _ _ _ c.args.t.now.within c.node-node.ensures.node).real, ap live c.in-Expr.is), walk start (c.requires.script ∙ sym c.node-node.ensures.children) (omega (arith, c.requires.fits, (is_node _ _ _ c.args.t.now.within c.node-node.ensures.node).apart, (is_node _ _ _ c.args.t.now.within c.node-node.ensures.node).real, ap live c.in-Expr.is)))
+gen_expr-for_expr-access-requires t c = in_kids c.node-node.result 0 1 (omega arith) c.decreases c.requires c.node-node.ensures.children c.node-node.ensures.node (ap live c.in-Expr.is)
 
 pub gen_expr-gen_binary_op-requires : goal.gen_expr-gen_binary_op-requires
-gen_expr-gen_binary_op-requires t c = (omega (arith, c.decreases, c.requires.fits, (is_node _ _ _ c.args.t.now.within c.node-node.ensures.node).apart, (is_node _ _ _ c.args.t.now.within c.node-node.ensures.node).real, ap live c.in-Expr.is), walk start (c.requires.script ∙ sym c.node-node.ensures.children) (omega (arith, c.requires.fits, (is_node _ _ _ c.args.t.now.within c.node-node.ensures.node).apart, (is_node _ _ _ c.args.t.now.within c.node-node.ensures.node).real, ap live c.in-Expr.is)))
+gen_expr-gen_binary_op-requires t c = in_kids c.node-node.result 0 5 (omega arith) c.decreases c.requires c.node-node.ensures.children c.node-node.ensures.node (ap live c.in-Expr.is)
 
 pub gen_expr-gen_call-requires : goal.gen_expr-gen_call-requires
-gen_expr-gen_call-requires t c = (omega (arith, c.decreases, c.requires.fits, (is_node _ _ _ c.args.t.now.within c.node-node.ensures.node).apart, (is_node _ _ _ c.args.t.now.within c.node-node.ensures.node).real, ap live c.in-Expr.is), walk start (c.requires.script ∙ sym c.node-node.ensures.children) (omega (arith, c.requires.fits, (is_node _ _ _ c.args.t.now.within c.node-node.ensures.node).apart, (is_node _ _ _ c.args.t.now.within c.node-node.ensures.node).real, ap live c.in-Expr.is)))
+gen_expr-gen_call-requires t c = in_kids c.node-node.result 0 5 (omega arith) c.decreases c.requires c.node-node.ensures.children c.node-node.ensures.node (ap live c.in-Expr.is)
 
 pub gen_expr-gen_call-requires-in-New : goal.gen_expr-gen_call-requires-in-New
-gen_expr-gen_call-requires-in-New t c = (omega (arith, c.decreases, c.requires.fits, (is_node _ _ _ c.args.t.now.within c.node-node.ensures.node).apart, (is_node _ _ _ c.args.t.now.within c.node-node.ensures.node).real, ap live c.in-Expr.is), walk start (c.requires.script ∙ sym c.node-node.ensures.children) (omega (arith, c.requires.fits, (is_node _ _ _ c.args.t.now.within c.node-node.ensures.node).apart, (is_node _ _ _ c.args.t.now.within c.node-node.ensures.node).real, ap live c.in-Expr.is)))
+gen_expr-gen_call-requires-in-New t c = in_kids c.node-node.result 0 5 (omega arith) c.decreases c.requires c.node-node.ensures.children c.node-node.ensures.node (ap live c.in-Expr.is)
 
 pub gen_expr-gen_expr-requires : goal.gen_expr-gen_expr-requires
-gen_expr-gen_expr-requires t c = (omega (arith, c.decreases, c.requires.fits, (is_node _ _ _ c.args.t.now.within c.node-node.ensures.node).apart, (is_node _ _ _ c.args.t.now.within c.node-node.ensures.node).real, ap live c.in-Expr.is, c.kid-source.ensures.kid.fewer, c.kid-target.ensures.kid.fewer), walk start (c.requires.script ∙ sym (c.kid-source.ensures.script ∙ c.node-node.ensures.children)) (omega (arith, c.requires.fits, (is_node _ _ _ c.args.t.now.within c.node-node.ensures.node).apart, (is_node _ _ _ c.args.t.now.within c.node-node.ensures.node).real, ap live c.in-Expr.is, c.kid-source.ensures.kid.fewer, c.kid-target.ensures.kid.fewer)))
+gen_expr-gen_expr-requires t c = (omega (arith, c.decreases, c.requires.fits, kids_less c.args.t.now c.node-node.result c.node-node.ensures.node (ap live c.in-Expr.is), c.kid-source.ensures.kid.fewer, c.kid-target.ensures.kid.fewer), walk start (c.requires.script ∙ sym (c.kid-source.ensures.script ∙ c.node-node.ensures.children)) (omega (arith, c.requires.fits, kids_less c.args.t.now c.node-node.result c.node-node.ensures.node (ap live c.in-Expr.is), c.kid-source.ensures.kid.fewer, c.kid-target.ensures.kid.fewer)))
 
 pub gen_expr-gen_expr-requires-in-Case : goal.gen_expr-gen_expr-requires-in-Case
-gen_expr-gen_expr-requires-in-Case t c = (omega (arith, c.decreases, c.requires.fits, (is_node _ _ _ c.args.t.now.within c.node-node.ensures.node).apart, (is_node _ _ _ c.args.t.now.within c.node-node.ensures.node).real, value_live c.in-Case.is), walk start (c.requires.script ∙ sym c.node-node.ensures.children) (omega (arith, c.requires.fits, (is_node _ _ _ c.args.t.now.within c.node-node.ensures.node).apart, (is_node _ _ _ c.args.t.now.within c.node-node.ensures.node).real, value_live c.in-Case.is)))
+gen_expr-gen_expr-requires-in-Case t c = in_kids c.node-node.result 0 0 (omega arith) c.decreases c.requires c.node-node.ensures.children c.node-node.ensures.node (value_live c.in-Case.is)
 
 pub gen_expr-gen_expr-requires-in-DuplicateMovieClip : goal.gen_expr-gen_expr-requires-in-DuplicateMovieClip
-gen_expr-gen_expr-requires-in-DuplicateMovieClip t c = (omega (arith, c.decreases, c.requires.fits, (is_node _ _ _ c.args.t.now.within c.node-node.ensures.node).apart, (is_node _ _ _ c.args.t.now.within c.node-node.ensures.node).real, ap live c.in-Expr.is, c.kid-source.ensures.kid.fewer, c.kid-target.ensures.kid.fewer, c.gen_expr.auto.scratch), walk (walked c.gen_expr.ensures start) (c.requires.script ∙ sym (c.kid-target.ensures.script ∙ c.node-node.ensures.children)) (omega (arith, c.requires.fits, (is_node _ _ _ c.args.t.now.within c.node-node.ensures.node).apart, (is_node _ _ _ c.args.t.now.within c.node-node.ensures.node).real, ap live c.in-Expr.is, c.kid-source.ensures.kid.fewer, c.kid-target.ensures.kid.fewer, c.gen_expr.auto.scratch)))
+gen_expr-gen_expr-requires-in-DuplicateMovieClip t c = (omega (arith, c.decreases, c.requires.fits, kids_less c.args.t.now c.node-node.result c.node-node.ensures.node (ap live c.in-Expr.is), c.kid-source.ensures.kid.fewer, c.kid-target.ensures.kid.fewer, c.gen_expr.auto.scratch), walk (walked c.gen_expr.ensures start) (c.requires.script ∙ sym (c.kid-target.ensures.script ∙ c.node-node.ensures.children)) (omega (arith, c.requires.fits, kids_less c.args.t.now c.node-node.result c.node-node.ensures.node (ap live c.in-Expr.is), c.kid-source.ensures.kid.fewer, c.kid-target.ensures.kid.fewer, c.gen_expr.auto.scratch)))
 
 pub gen_expr-gen_expr-requires-in-DuplicateMovieClip-2 : goal.gen_expr-gen_expr-requires-in-DuplicateMovieClip-2
-gen_expr-gen_expr-requires-in-DuplicateMovieClip-2 t c = (omega (arith, c.decreases, c.requires.fits, (is_node _ _ _ c.args.t.now.within c.node-node.ensures.node).apart, (is_node _ _ _ c.args.t.now.within c.node-node.ensures.node).real, ap live c.in-Expr.is, c.kid-source.ensures.kid.fewer, c.kid-target.ensures.kid.fewer, c.gen_expr.auto.scratch, c.gen_expr-in-DuplicateMovieClip.auto.scratch), walk (built {d = c.gen_expr-in-DuplicateMovieClip.new.context} c.push.ensures.keeps.list (walked c.gen_expr-in-DuplicateMovieClip.ensures (walked c.gen_expr.ensures start))) (c.requires.script ∙ sym c.node-node.ensures.children) (omega (arith, c.requires.fits, (is_node _ _ _ c.args.t.now.within c.node-node.ensures.node).apart, (is_node _ _ _ c.args.t.now.within c.node-node.ensures.node).real, ap live c.in-Expr.is, c.kid-source.ensures.kid.fewer, c.kid-target.ensures.kid.fewer, c.gen_expr.auto.scratch, c.gen_expr-in-DuplicateMovieClip.auto.scratch)))
+gen_expr-gen_expr-requires-in-DuplicateMovieClip-2 t c = (omega (arith, c.decreases, c.requires.fits, kids_less c.args.t.now c.node-node.result c.node-node.ensures.node (ap live c.in-Expr.is), c.kid-source.ensures.kid.fewer, c.kid-target.ensures.kid.fewer, c.gen_expr.auto.scratch, c.gen_expr-in-DuplicateMovieClip.auto.scratch), walk (built {d = c.gen_expr-in-DuplicateMovieClip.new.context} c.push.ensures.keeps.list (walked c.gen_expr-in-DuplicateMovieClip.ensures (walked c.gen_expr.ensures start))) (c.requires.script ∙ sym c.node-node.ensures.children) (omega (arith, c.requires.fits, kids_less c.args.t.now c.node-node.result c.node-node.ensures.node (ap live c.in-Expr.is), c.kid-source.ensures.kid.fewer, c.kid-target.ensures.kid.fewer, c.gen_expr.auto.scratch, c.gen_expr-in-DuplicateMovieClip.auto.scratch)))
 
 pub gen_expr-gen_expr-requires-in-GetProperty : goal.gen_expr-gen_expr-requires-in-GetProperty
-gen_expr-gen_expr-requires-in-GetProperty t c = (omega (arith, c.decreases, c.requires.fits, (is_node _ _ _ c.args.t.now.within c.node-node.ensures.node).apart, (is_node _ _ _ c.args.t.now.within c.node-node.ensures.node).real, ap live c.in-Expr.is), walk start (c.requires.script ∙ sym c.node-node.ensures.children) (omega (arith, c.requires.fits, (is_node _ _ _ c.args.t.now.within c.node-node.ensures.node).apart, (is_node _ _ _ c.args.t.now.within c.node-node.ensures.node).real, ap live c.in-Expr.is)))
+gen_expr-gen_expr-requires-in-GetProperty t c = in_kids c.node-node.result 0 0 (omega arith) c.decreases c.requires c.node-node.ensures.children c.node-node.ensures.node (ap live c.in-Expr.is)
 
 pub gen_expr-gen_expr-requires-in-SetProperty : goal.gen_expr-gen_expr-requires-in-SetProperty
-gen_expr-gen_expr-requires-in-SetProperty t c = (omega (arith, c.decreases, c.requires.fits, (is_node _ _ _ c.args.t.now.within c.node-node.ensures.node).apart, (is_node _ _ _ c.args.t.now.within c.node-node.ensures.node).real, ap live c.in-Expr.is, c.kid-target-in-SetProperty.ensures.kid.fewer), walk start (c.requires.script ∙ sym (c.kid-target-in-SetProperty.ensures.script ∙ c.node-node.ensures.children)) (omega (arith, c.requires.fits, (is_node _ _ _ c.args.t.now.within c.node-node.ensures.node).apart, (is_node _ _ _ c.args.t.now.within c.node-node.ensures.node).real, ap live c.in-Expr.is, c.kid-target-in-SetProperty.ensures.kid.fewer)))
+gen_expr-gen_expr-requires-in-SetProperty t c = (omega (arith, c.decreases, c.requires.fits, kids_less c.args.t.now c.node-node.result c.node-node.ensures.node (ap live c.in-Expr.is), c.kid-target-in-SetProperty.ensures.kid.fewer), walk start (c.requires.script ∙ sym (c.kid-target-in-SetProperty.ensures.script ∙ c.node-node.ensures.children)) (omega (arith, c.requires.fits, kids_less c.args.t.now c.node-node.result c.node-node.ensures.node (ap live c.in-Expr.is), c.kid-target-in-SetProperty.ensures.kid.fewer)))
 
 pub gen_expr-gen_expr-requires-in-SetProperty-2 : goal.gen_expr-gen_expr-requires-in-SetProperty-2
-gen_expr-gen_expr-requires-in-SetProperty-2 t c = (omega (arith, c.decreases, c.requires.fits, (is_node _ _ _ c.args.t.now.within c.node-node.ensures.node).apart, (is_node _ _ _ c.args.t.now.within c.node-node.ensures.node).real, ap live c.in-Expr.is, c.kid-target-in-SetProperty.ensures.kid.fewer, c.gen_expr-in-SetProperty.auto.scratch), walk (built {d = c.gen_expr-in-SetProperty.new.context} c.push-in-SetProperty.ensures.keeps.list (walked c.gen_expr-in-SetProperty.ensures start)) (c.requires.script ∙ sym c.node-node.ensures.children) (omega (arith, c.requires.fits, (is_node _ _ _ c.args.t.now.within c.node-node.ensures.node).apart, (is_node _ _ _ c.args.t.now.within c.node-node.ensures.node).real, ap live c.in-Expr.is, c.kid-target-in-SetProperty.ensures.kid.fewer, c.gen_expr-in-SetProperty.auto.scratch)))
+gen_expr-gen_expr-requires-in-SetProperty-2 t c = (omega (arith, c.decreases, c.requires.fits, kids_less c.args.t.now c.node-node.result c.node-node.ensures.node (ap live c.in-Expr.is), c.kid-target-in-SetProperty.ensures.kid.fewer, c.gen_expr-in-SetProperty.auto.scratch), walk (built {d = c.gen_expr-in-SetProperty.new.context} c.push-in-SetProperty.ensures.keeps.list (walked c.gen_expr-in-SetProperty.ensures start)) (c.requires.script ∙ sym c.node-node.ensures.children) (omega (arith, c.requires.fits, kids_less c.args.t.now c.node-node.result c.node-node.ensures.node (ap live c.in-Expr.is), c.kid-target-in-SetProperty.ensures.kid.fewer, c.gen_expr-in-SetProperty.auto.scratch)))
 
 pub gen_expr-gen_function-requires : goal.gen_expr-gen_function-requires
-gen_expr-gen_function-requires t c = (omega (arith, c.decreases, c.requires.fits, (is_node _ _ _ c.args.t.now.within c.node-node.ensures.node).apart, (is_node _ _ _ c.args.t.now.within c.node-node.ensures.node).real, ap live c.in-Expr.is), (walk start (c.requires.script ∙ sym c.node-node.ensures.children) (omega (arith, c.requires.fits, (is_node _ _ _ c.args.t.now.within c.node-node.ensures.node).apart, (is_node _ _ _ c.args.t.now.within c.node-node.ensures.node).real, ap live c.in-Expr.is)), (omega (arith, number_less (file_of c.args.t.now) _ (rw (c.in-Expr.is, c.in-Function.is) at (is_node _ _ _ c.args.t.now.within c.node-node.ensures.node).named), c.args.t.now.within.sound.few), rw c.from.ensures (bool_small _))))
+gen_expr-gen_function-requires t c = (omega (arith, c.decreases, c.requires.fits, kids_less c.args.t.now c.node-node.result c.node-node.ensures.node (ap live c.in-Expr.is)), (walk start (c.requires.script ∙ sym c.node-node.ensures.children) (omega (arith, c.requires.fits, kids_less c.args.t.now c.node-node.result c.node-node.ensures.node (ap live c.in-Expr.is))), omega (arith, number_less (file_of c.args.t.now) _ (rw (c.in-Expr.is, c.in-Function.is) at (is_node _ _ _ c.args.t.now.within c.node-node.ensures.node).named), c.args.t.now.within.sound.few)))
 
 pub gen_expr-gen_ternary-requires : goal.gen_expr-gen_ternary-requires
-gen_expr-gen_ternary-requires t c = (omega (arith, c.decreases, c.requires.fits, (is_node _ _ _ c.args.t.now.within c.node-node.ensures.node).apart, (is_node _ _ _ c.args.t.now.within c.node-node.ensures.node).real, ap live c.in-Expr.is), walk start (c.requires.script ∙ sym c.node-node.ensures.children) (omega (arith, c.requires.fits, (is_node _ _ _ c.args.t.now.within c.node-node.ensures.node).apart, (is_node _ _ _ c.args.t.now.within c.node-node.ensures.node).real, ap live c.in-Expr.is)))
+gen_expr-gen_ternary-requires t c = in_kids c.node-node.result 0 5 (omega arith) c.decreases c.requires c.node-node.ensures.children c.node-node.ensures.node (ap live c.in-Expr.is)
 
 pub gen_expr-gen_unary_op-requires : goal.gen_expr-gen_unary_op-requires
-gen_expr-gen_unary_op-requires t c = (omega (arith, c.decreases, c.requires.fits, (is_node _ _ _ c.args.t.now.within c.node-node.ensures.node).apart, (is_node _ _ _ c.args.t.now.within c.node-node.ensures.node).real, ap live c.in-Expr.is), walk start (c.requires.script ∙ sym c.node-node.ensures.children) (omega (arith, c.requires.fits, (is_node _ _ _ c.args.t.now.within c.node-node.ensures.node).apart, (is_node _ _ _ c.args.t.now.within c.node-node.ensures.node).real, ap live c.in-Expr.is)))
+gen_expr-gen_unary_op-requires t c = in_kids c.node-node.result 0 5 (omega arith) c.decreases c.requires c.node-node.ensures.children c.node-node.ensures.node (ap live c.in-Expr.is)
 
 pub gen_expr-goto-requires : goal.gen_expr-goto-requires
-gen_expr-goto-requires t c = (omega (arith, c.decreases, c.requires.fits, (is_node _ _ _ c.args.t.now.within c.node-node.ensures.node).apart, (is_node _ _ _ c.args.t.now.within c.node-node.ensures.node).real, ap live c.in-Expr.is), walk start (c.requires.script ∙ sym c.node-node.ensures.children) (omega (arith, c.requires.fits, (is_node _ _ _ c.args.t.now.within c.node-node.ensures.node).apart, (is_node _ _ _ c.args.t.now.within c.node-node.ensures.node).real, ap live c.in-Expr.is)))
+gen_expr-goto-requires t c = in_kids c.node-node.result 0 5 (omega arith) c.decreases c.requires c.node-node.ensures.children c.node-node.ensures.node (ap live c.in-Expr.is)
 
 pub gen_expr-invariant_of-context : goal.gen_expr-invariant_of-context
 gen_expr-invariant_of-context t c = record { laid_out = c.each.new.context.laid_out; indexed = index_stays (c.action.ensures (file_of c.args.t.now)).keeps.pool c.each.new.context.indexed }
@@ -443,7 +450,7 @@ pub gen_expr-returns-in-Field : goal.gen_expr-returns-in-Field
 gen_expr-returns-in-Field t c = walks (built {d = c.each-in-Field.new.context} (c.action-in-Field.ensures (file_of c.args.t.now)).keeps.list (walked c.each-in-Field.ensures start)) (rw (expr_at (is_node _ _ _ c.args.t.now.within c.node-node.ensures.node) c.args.discard c.in-Expr.is, c.in-Field.is) (trivial_arm c.args.t.now.script.layout c.node-node.result.children.part (loop_of c.no_loop-idle-in-Field.result) GetMember (rw c.node-node.ensures.children at c.each-in-Field.ensures.does) (c.action-in-Field.ensures (file_of c.args.t.now)).does))
 
 pub gen_expr-returns-in-Function : goal.gen_expr-returns-in-Function
-gen_expr-returns-in-Function t c = walks (walked (c.gen_function.ensures (rw c.node-node.ensures.children (rw (c.in-Expr.is, c.in-Function.is) at (is_node _ _ _ c.args.t.now.within c.node-node.ensures.node).named)) (rw c.node-node.ensures.children (function_size (is_node _ _ _ c.args.t.now.within c.node-node.ensures.node) (rw c.in-Function.is at c.in-Expr.is) _ (λ z. rw c.from.ensures (c.leaves_value-up.ensures z)) c.args.context.now.builder.state.size))) start) (rw (function_at (is_node _ _ _ c.args.t.now.within c.node-node.ensures.node) (rw c.in-Function.is at c.in-Expr.is) c.args.discard) (rw c.node-node.ensures.children at (c.gen_function.ensures (rw c.node-node.ensures.children (rw (c.in-Expr.is, c.in-Function.is) at (is_node _ _ _ c.args.t.now.within c.node-node.ensures.node).named)) (rw c.node-node.ensures.children (function_size (is_node _ _ _ c.args.t.now.within c.node-node.ensures.node) (rw c.in-Function.is at c.in-Expr.is) _ (λ z. rw c.from.ensures (c.leaves_value-up.ensures z)) c.args.context.now.builder.state.size))).does))
+gen_expr-returns-in-Function t c = walks (walked (c.gen_function.ensures (rw c.node-node.ensures.children (rw (c.in-Expr.is, c.in-Function.is) at (is_node _ _ _ c.args.t.now.within c.node-node.ensures.node).named)) (rw c.node-node.ensures.children (function_size (is_node _ _ _ c.args.t.now.within c.node-node.ensures.node) (rw c.in-Function.is at c.in-Expr.is) _ c.leaves_value-up.ensures c.args.context.now.builder.state.size))) start) (rw (function_at (is_node _ _ _ c.args.t.now.within c.node-node.ensures.node) (rw c.in-Function.is at c.in-Expr.is) c.args.discard) (rw c.node-node.ensures.children at (c.gen_function.ensures (rw c.node-node.ensures.children (rw (c.in-Expr.is, c.in-Function.is) at (is_node _ _ _ c.args.t.now.within c.node-node.ensures.node).named)) (rw c.node-node.ensures.children (function_size (is_node _ _ _ c.args.t.now.within c.node-node.ensures.node) (rw c.in-Function.is at c.in-Expr.is) _ c.leaves_value-up.ensures c.args.context.now.builder.state.size))).does))
 
 pub gen_expr-returns-in-GetProperty : goal.gen_expr-returns-in-GetProperty
 gen_expr-returns-in-GetProperty t c = walks (built {d = c.gen_expr-in-GetProperty.new.context} (keeps_then c.push-in-GetProperty.ensures.keeps (c.action-in-GetProperty.ensures (file_of c.args.t.now)).keeps).list (walked c.gen_expr-in-GetProperty.ensures start)) (rw (expr_at (is_node _ _ _ c.args.t.now.within c.node-node.ensures.node) c.args.discard c.in-Expr.is, c.in-GetProperty.is) (get_property_arm c.args.t.now.script.layout c.node-node.result.children.part (unsigned c.in-GetProperty.n) (rw c.node-node.ensures.children at c.gen_expr-in-GetProperty.ensures.does) (rw (ap unsigned (to_z-of_z w32 c.in-GetProperty.n (search rules))) at (c.push-in-GetProperty.ensures.runs (file_of c.args.t.now) tt).does) (c.action-in-GetProperty.ensures (file_of c.args.t.now)).does))
@@ -461,7 +468,7 @@ pub gen_expr-returns-in-New : goal.gen_expr-returns-in-New
 gen_expr-returns-in-New t c = walks (walked c.gen_call-in-New.ensures start) (rw (expr_at (is_node _ _ _ c.args.t.now.within c.node-node.ensures.node) c.args.discard c.in-Expr.is, c.in-New.is) (rw c.node-node.ensures.children at c.gen_call-in-New.ensures.does))
 
 pub gen_expr-returns-in-SetProperty : goal.gen_expr-returns-in-SetProperty
-gen_expr-returns-in-SetProperty t c = walks (built {d = c.gen_expr-in-SetProperty-2.new.context} (c.action-in-SetProperty.ensures (file_of c.args.t.now)).keeps.list (walked c.gen_expr-in-SetProperty-2.ensures (built {d = c.gen_expr-in-SetProperty.new.context} c.push-in-SetProperty.ensures.keeps.list (walked c.gen_expr-in-SetProperty.ensures start)))) (rw (expr_at (is_node _ _ _ c.args.t.now.within c.node-node.ensures.node) c.args.discard c.in-Expr.is, c.in-SetProperty.is) (set_property_arm c.args.t.now.script.layout c.node-node.result.children.part (unsigned c.in-SetProperty.n) (rw c.node-node.ensures.children at c.kid-target-in-SetProperty.ensures.kid) (rw (c.kid-target-in-SetProperty.ensures.script ∙ c.node-node.ensures.children) at c.gen_expr-in-SetProperty.ensures.does) (rw (ap unsigned (to_z-of_z w32 c.in-SetProperty.n (record { sfits = c.in-SetProperty.known_told-in-Expr-9-1-own.given.0.1 }))) at (c.push-in-SetProperty.ensures.runs (file_of c.args.t.now) tt).does) (rw c.node-node.ensures.children at c.gen_expr-in-SetProperty-2.ensures.does) (c.action-in-SetProperty.ensures (file_of c.args.t.now)).does))
+gen_expr-returns-in-SetProperty t c = walks (built {d = c.gen_expr-in-SetProperty-2.new.context} (c.action-in-SetProperty.ensures (file_of c.args.t.now)).keeps.list (walked c.gen_expr-in-SetProperty-2.ensures (built {d = c.gen_expr-in-SetProperty.new.context} c.push-in-SetProperty.ensures.keeps.list (walked c.gen_expr-in-SetProperty.ensures start)))) (rw (expr_at (is_node _ _ _ c.args.t.now.within c.node-node.ensures.node) c.args.discard c.in-Expr.is, c.in-SetProperty.is) (set_property_arm c.args.t.now.script.layout c.node-node.result.children.part (unsigned c.in-SetProperty.n) (rw c.node-node.ensures.children at c.kid-target-in-SetProperty.ensures.kid) (rw (c.kid-target-in-SetProperty.ensures.script ∙ c.node-node.ensures.children) at c.gen_expr-in-SetProperty.ensures.does) (rw (ap unsigned (to_z-of_z w32 c.in-SetProperty.n (search rules))) at (c.push-in-SetProperty.ensures.runs (file_of c.args.t.now) tt).does) (rw c.node-node.ensures.children at c.gen_expr-in-SetProperty-2.ensures.does) (c.action-in-SetProperty.ensures (file_of c.args.t.now)).does))
 
 pub gen_expr-returns-in-Simple : goal.gen_expr-returns-in-Simple
 gen_expr-returns-in-Simple t c = walks (built {d = c.each.new.context} (c.action.ensures (file_of c.args.t.now)).keeps.list (walked c.each.ensures start)) (rw (expr_at (is_node _ _ _ c.args.t.now.within c.node-node.ensures.node) c.args.discard c.in-Expr.is, c.in-Simple.is, ← c.action_of-o.ensures) (trivial_arm c.args.t.now.script.layout c.node-node.result.children.part (loop_of c.no_loop-idle.result) c.action_of-o.result (rw c.node-node.ensures.children at c.each.ensures.does) (c.action.ensures (file_of c.args.t.now)).does))
@@ -536,7 +543,7 @@ pub gen_function-end_function-requires-clause-ready : goal.gen_function-end_func
 gen_function-end_function-requires-clause-ready t c = rw (c.begin_function-outer.ensures.outer.0, c.begin_function-outer.ensures.outer.1) (ready (file_of c.args.t.now) _ c.args.context.now.builder.state _ c.args.context.now.builder.fine (rw (c.begin_function-outer.ensures.state, c.begin_function-outer.ensures.list, c.no_loop-idle.ensures, ← c.list-body.ensures.list.means) at (rw c.list-body.ensures.script at c.gen_statements.ensures.does)))
 
 pub gen_function-end_function-requires-clause-up_bound : goal.gen_function-end_function-requires-clause-up_bound
-gen_function-end_function-requires-clause-up_bound t c = c.requires.up_bound
+gen_function-end_function-requires-clause-up_bound t c = rw c.from.ensures (one_most c.args.up)
 
 pub gen_function-gen_statements-requires : goal.gen_function-gen_statements-requires
 gen_function-gen_statements-requires t c = (omega (arith, c.decreases, c.requires.walk.fits, c.list-body.ensures.list.fewer), walk (built {d = c.args.context.now} c.begin_function-outer.ensures.keeps.list start) (c.requires.walk.script ∙ sym c.list-body.ensures.script) (omega (arith, c.requires.walk.fits, c.list-body.ensures.list.fewer)))
@@ -548,7 +555,7 @@ pub gen_function-invariant_of-context-2 : goal.gen_function-invariant_of-context
 gen_function-invariant_of-context-2 t c = record { laid_out = c.gen_statements.new.context.laid_out; indexed = index_stays c.end_function.ensures.keeps.pool c.gen_statements.new.context.indexed }
 
 pub gen_function-returns : goal.gen_function-returns
-gen_function-returns t c = λ nf mv. walks (built {d = c.gen_statements.new.context} c.end_function.ensures.keeps.list (walked c.gen_statements.ensures (built {d = c.args.context.now} c.begin_function-outer.ensures.keeps.list start))) (function_done (file_of c.args.t.now) _ c.args.context.now.builder.state _ c.args.context.now.builder.fine (rw (c.begin_function-outer.ensures.state, c.begin_function-outer.ensures.list, c.no_loop-idle.ensures, ← c.list-body.ensures.list.means) at (rw c.list-body.ensures.script at c.gen_statements.ensures.does)) _ (rw (c.begin_function-outer.ensures.outer.0, c.begin_function-outer.ensures.outer.1) at (c.end_function.ensures.ends (file_of c.args.t.now) nf (rw c.begin_function-outer.ensures.outer.1 mv)).ends))
+gen_function-returns t c = λ nf mv. walks (built {d = c.gen_statements.new.context} c.end_function.ensures.keeps.list (walked c.gen_statements.ensures (built {d = c.args.context.now} c.begin_function-outer.ensures.keeps.list start))) (function_done (file_of c.args.t.now) _ c.args.context.now.builder.state _ c.args.context.now.builder.fine (rw (c.begin_function-outer.ensures.state, c.begin_function-outer.ensures.list, c.no_loop-idle.ensures, ← c.list-body.ensures.list.means) at (rw c.list-body.ensures.script at c.gen_statements.ensures.does)) _ (rw (c.begin_function-outer.ensures.outer.0, c.begin_function-outer.ensures.outer.1) at (c.end_function.ensures.ends (file_of c.args.t.now) nf (rw (c.begin_function-outer.ensures.outer.1, c.from.ensures) mv)).ends))
 
 pub gen_if-gen_expr-requires : goal.gen_if-gen_expr-requires
 gen_if-gen_expr-requires t c = (omega (arith, c.decreases, c.requires.fits, c.kid-condition.ensures.kid.fewer, c.kid-yes.ensures.kid.fewer), walk (built {d = c.args.context.now} (c.create_label-end.ensures (file_of c.args.t.now)).keeps.list start) (c.requires.script ∙ sym c.kid-condition.ensures.script) (omega (arith, c.requires.fits, c.kid-condition.ensures.kid.fewer, c.kid-yes.ensures.kid.fewer)))
@@ -587,31 +594,31 @@ pub gen_if-returns-then-is_present : goal.gen_if-returns-then-is_present
 gen_if-returns-then-is_present t c = walks (built {d = c.gen_statement-then-is_present.new.context} (c.mark_label-then-is_present.ensures (file_of c.args.t.now)).keeps.list (walked c.gen_statement-then-is_present.ensures (built {d = c.gen_statement.new.context} (keeps_then (c.jump.ensures (file_of c.args.t.now)).keeps (c.mark_label.ensures (file_of c.args.t.now)).keeps).list (walked c.gen_statement.ensures (built {d = c.gen_expr.new.context} (keeps_then (c.action.ensures (file_of c.args.t.now)).keeps (keeps_then (c.create_label-no.ensures (file_of c.args.t.now)).keeps (c.branch-context.ensures (file_of c.args.t.now)).keeps)).list (walked c.gen_expr.ensures (built {d = c.args.context.now} (c.create_label-end.ensures (file_of c.args.t.now)).keeps.list start))))))) (if_both_arm c.args.t.now.script.layout c.args.t.now.part (loop_of c.args.lp) c.kid-condition.ensures.kid c.kid-yes.ensures.kid (ap present (rec_is (is_node _ _ _ c.args.t.now.within c.node-node.ensures.node)) ∙ sym (c.is_present.ensures (file_of c.args.t.now)) ∙ c.if-is_present.true) (c.create_label-end.ensures (file_of c.args.t.now)).does (rw c.kid-condition.ensures.script at c.gen_expr.ensures.does) (c.action.ensures (file_of c.args.t.now)).does (c.create_label-no.ensures (file_of c.args.t.now)).does (c.branch-context.ensures (file_of c.args.t.now)).does (rw c.kid-yes.ensures.script at c.gen_statement.ensures.does) (c.jump.ensures (file_of c.args.t.now)).does (c.mark_label.ensures (file_of c.args.t.now)).does c.gen_statement-then-is_present.ensures.does (c.mark_label-then-is_present.ensures (file_of c.args.t.now)).does)
 
 pub gen_statement-exit-requires : goal.gen_statement-exit-requires
-gen_statement-exit-requires t c = (omega (arith, c.decreases, c.requires.fits, (is_node _ _ _ c.args.t.now.within c.node-node.ensures.node).apart, (is_node _ _ _ c.args.t.now.within c.node-node.ensures.node).real, ap live c.in-Statement.is), walk start (c.requires.script ∙ sym c.node-node.ensures.children) (omega (arith, c.requires.fits, (is_node _ _ _ c.args.t.now.within c.node-node.ensures.node).apart, (is_node _ _ _ c.args.t.now.within c.node-node.ensures.node).real, ap live c.in-Statement.is)))
+gen_statement-exit-requires t c = in_kids c.node-node.result 0 5 (omega arith) c.decreases c.requires c.node-node.ensures.children c.node-node.ensures.node (ap live c.in-Statement.is)
 
 pub gen_statement-exit-requires-in-Throw : goal.gen_statement-exit-requires-in-Throw
-gen_statement-exit-requires-in-Throw t c = (omega (arith, c.decreases, c.requires.fits, (is_node _ _ _ c.args.t.now.within c.node-node.ensures.node).apart, (is_node _ _ _ c.args.t.now.within c.node-node.ensures.node).real, ap live c.in-Statement.is), walk start (c.requires.script ∙ sym c.node-node.ensures.children) (omega (arith, c.requires.fits, (is_node _ _ _ c.args.t.now.within c.node-node.ensures.node).apart, (is_node _ _ _ c.args.t.now.within c.node-node.ensures.node).real, ap live c.in-Statement.is)))
+gen_statement-exit-requires-in-Throw t c = in_kids c.node-node.result 0 5 (omega arith) c.decreases c.requires c.node-node.ensures.children c.node-node.ensures.node (ap live c.in-Statement.is)
 
 pub gen_statement-gen_expr-requires : goal.gen_statement-gen_expr-requires
-gen_statement-gen_expr-requires t c = (omega (arith, c.decreases, c.requires.fits, (is_node _ _ _ c.args.t.now.within c.node-node.ensures.node).apart, (is_node _ _ _ c.args.t.now.within c.node-node.ensures.node).real, ap live c.in-Statement.is), walk (acted (c.push_string.ensures (rw c.requires.script ((rw (c.in-Statement.is, c.in-Declare.is) at (is_node _ _ _ c.args.t.now.within c.node-node.ensures.node).named)))) start) (c.requires.script ∙ sym c.node-node.ensures.children) (omega (arith, c.requires.fits, (is_node _ _ _ c.args.t.now.within c.node-node.ensures.node).apart, (is_node _ _ _ c.args.t.now.within c.node-node.ensures.node).real, ap live c.in-Statement.is)))
+gen_statement-gen_expr-requires t c = (omega (arith, c.decreases, c.requires.fits, kids_less c.args.t.now c.node-node.result c.node-node.ensures.node (ap live c.in-Statement.is)), walk (acted (c.push_string.ensures (rw c.requires.script ((rw (c.in-Statement.is, c.in-Declare.is) at (is_node _ _ _ c.args.t.now.within c.node-node.ensures.node).named)))) start) (c.requires.script ∙ sym c.node-node.ensures.children) (omega (arith, c.requires.fits, kids_less c.args.t.now c.node-node.result c.node-node.ensures.node (ap live c.in-Statement.is))))
 
 pub gen_statement-gen_expr-requires-in-Expr : goal.gen_statement-gen_expr-requires-in-Expr
-gen_statement-gen_expr-requires-in-Expr t c = (omega (arith, c.decreases, c.requires.fits, (is_node _ _ _ c.args.t.now.within c.node-node.ensures.node).apart, (is_node _ _ _ c.args.t.now.within c.node-node.ensures.node).real, ap live c.in-Statement.is), walk start (c.requires.script ∙ sym c.node-node.ensures.children) (omega (arith, c.requires.fits, (is_node _ _ _ c.args.t.now.within c.node-node.ensures.node).apart, (is_node _ _ _ c.args.t.now.within c.node-node.ensures.node).real, ap live c.in-Statement.is)))
+gen_statement-gen_expr-requires-in-Expr t c = in_kids c.node-node.result 0 0 (omega arith) c.decreases c.requires c.node-node.ensures.children c.node-node.ensures.node (ap live c.in-Statement.is)
 
 pub gen_statement-gen_for_loop-requires : goal.gen_statement-gen_for_loop-requires
-gen_statement-gen_for_loop-requires t c = (omega (arith, c.decreases, c.requires.fits, (is_node _ _ _ c.args.t.now.within c.node-node.ensures.node).apart, (is_node _ _ _ c.args.t.now.within c.node-node.ensures.node).real, ap live c.in-Statement.is), (walk start (c.requires.script ∙ sym c.node-node.ensures.children) (omega (arith, c.requires.fits, (is_node _ _ _ c.args.t.now.within c.node-node.ensures.node).apart, (is_node _ _ _ c.args.t.now.within c.node-node.ensures.node).real, ap live c.in-Statement.is)), rw c.node-node.ensures.children (rw (c.in-Statement.is, c.in-ForIn.is) at (is_node _ _ _ c.args.t.now.within c.node-node.ensures.node).named)))
+gen_statement-gen_for_loop-requires t c = (omega (arith, c.decreases, c.requires.fits, kids_less c.args.t.now c.node-node.result c.node-node.ensures.node (ap live c.in-Statement.is)), (walk start (c.requires.script ∙ sym c.node-node.ensures.children) (omega (arith, c.requires.fits, kids_less c.args.t.now c.node-node.result c.node-node.ensures.node (ap live c.in-Statement.is))), rw c.node-node.ensures.children (rw (c.in-Statement.is, c.in-ForIn.is) at (is_node _ _ _ c.args.t.now.within c.node-node.ensures.node).named)))
 
 pub gen_statement-gen_if-requires : goal.gen_statement-gen_if-requires
-gen_statement-gen_if-requires t c = (omega (arith, c.decreases, c.requires.fits, (is_node _ _ _ c.args.t.now.within c.node-node.ensures.node).apart, (is_node _ _ _ c.args.t.now.within c.node-node.ensures.node).real, ap live c.in-Statement.is), walk start (c.requires.script ∙ sym c.node-node.ensures.children) (omega (arith, c.requires.fits, (is_node _ _ _ c.args.t.now.within c.node-node.ensures.node).apart, (is_node _ _ _ c.args.t.now.within c.node-node.ensures.node).real, ap live c.in-Statement.is)))
+gen_statement-gen_if-requires t c = in_kids c.node-node.result 0 5 (omega arith) c.decreases c.requires c.node-node.ensures.children c.node-node.ensures.node (ap live c.in-Statement.is)
 
 pub gen_statement-gen_statements-requires : goal.gen_statement-gen_statements-requires
-gen_statement-gen_statements-requires t c = (omega (arith, c.decreases, c.requires.fits, (is_node _ _ _ c.args.t.now.within c.node-node.ensures.node).apart, (is_node _ _ _ c.args.t.now.within c.node-node.ensures.node).real, ap live c.in-Statement.is, c.list-body.ensures.list.fewer, c.innermost-inner.ensures.innermost.fewer), walk start (c.requires.script ∙ sym (c.innermost-inner.ensures.script ∙ c.list-body.ensures.script ∙ c.node-node.ensures.children)) (omega (arith, c.requires.fits, (is_node _ _ _ c.args.t.now.within c.node-node.ensures.node).apart, (is_node _ _ _ c.args.t.now.within c.node-node.ensures.node).real, ap live c.in-Statement.is, c.list-body.ensures.list.fewer, c.innermost-inner.ensures.innermost.fewer)))
+gen_statement-gen_statements-requires t c = (omega (arith, c.decreases, c.requires.fits, kids_less c.args.t.now c.node-node.result c.node-node.ensures.node (ap live c.in-Statement.is), c.list-body.ensures.list.fewer, c.innermost-inner.ensures.innermost.fewer), walk start (c.requires.script ∙ sym (c.innermost-inner.ensures.script ∙ c.list-body.ensures.script ∙ c.node-node.ensures.children)) (omega (arith, c.requires.fits, kids_less c.args.t.now c.node-node.result c.node-node.ensures.node (ap live c.in-Statement.is), c.list-body.ensures.list.fewer, c.innermost-inner.ensures.innermost.fewer)))
 
 pub gen_statement-gen_switch-requires : goal.gen_statement-gen_switch-requires
-gen_statement-gen_switch-requires t c = (omega (arith, c.decreases, c.requires.fits, (is_node _ _ _ c.args.t.now.within c.node-node.ensures.node).apart, (is_node _ _ _ c.args.t.now.within c.node-node.ensures.node).real, ap live c.in-Statement.is), walk start (c.requires.script ∙ sym c.node-node.ensures.children) (omega (arith, c.requires.fits, (is_node _ _ _ c.args.t.now.within c.node-node.ensures.node).apart, (is_node _ _ _ c.args.t.now.within c.node-node.ensures.node).real, ap live c.in-Statement.is)))
+gen_statement-gen_switch-requires t c = in_kids c.node-node.result 0 5 (omega arith) c.decreases c.requires c.node-node.ensures.children c.node-node.ensures.node (ap live c.in-Statement.is)
 
 pub gen_statement-gen_while_loop-requires : goal.gen_statement-gen_while_loop-requires
-gen_statement-gen_while_loop-requires t c = (omega (arith, c.decreases, c.requires.fits, (is_node _ _ _ c.args.t.now.within c.node-node.ensures.node).apart, (is_node _ _ _ c.args.t.now.within c.node-node.ensures.node).real, ap live c.in-Statement.is), walk start (c.requires.script ∙ sym c.node-node.ensures.children) (omega (arith, c.requires.fits, (is_node _ _ _ c.args.t.now.within c.node-node.ensures.node).apart, (is_node _ _ _ c.args.t.now.within c.node-node.ensures.node).real, ap live c.in-Statement.is)))
+gen_statement-gen_while_loop-requires t c = in_kids c.node-node.result 0 5 (omega arith) c.decreases c.requires c.node-node.ensures.children c.node-node.ensures.node (ap live c.in-Statement.is)
 
 pub gen_statement-invariant_of-context : goal.gen_statement-invariant_of-context
 gen_statement-invariant_of-context t c = record { laid_out = c.gen_expr.new.context.laid_out; indexed = index_stays (c.action.ensures (file_of c.args.t.now)).keeps.pool c.gen_expr.new.context.indexed }
@@ -770,13 +777,13 @@ pub gen_unary_op-gen_expr-requires : goal.gen_unary_op-gen_expr-requires
 gen_unary_op-gen_expr-requires t c = (omega (arith, c.decreases, c.requires.fits), walk (built {d = c.args.context.now} c.push.ensures.keeps.list start) c.requires.script (omega (arith, c.requires.fits)))
 
 pub gen_unary_op-gen_expr-requires-in-Add : goal.gen_unary_op-gen_expr-requires-in-Add
-gen_unary_op-gen_expr-requires-in-Add t c = (omega (arith, c.decreases, c.requires.fits), walk start c.requires.script (omega (arith, c.requires.fits)))
+gen_unary_op-gen_expr-requires-in-Add t c = (omega (arith, c.decreases), c.requires)
 
 pub gen_unary_op-gen_expr-requires-in-BitNot : goal.gen_unary_op-gen_expr-requires-in-BitNot
-gen_unary_op-gen_expr-requires-in-BitNot t c = (omega (arith, c.decreases, c.requires.fits), walk start c.requires.script (omega (arith, c.requires.fits)))
+gen_unary_op-gen_expr-requires-in-BitNot t c = (omega (arith, c.decreases), c.requires)
 
 pub gen_unary_op-gen_expr-requires-in-LogicalNot : goal.gen_unary_op-gen_expr-requires-in-LogicalNot
-gen_unary_op-gen_expr-requires-in-LogicalNot t c = (omega (arith, c.decreases, c.requires.fits), walk start c.requires.script (omega (arith, c.requires.fits)))
+gen_unary_op-gen_expr-requires-in-LogicalNot t c = (omega (arith, c.decreases), c.requires)
 
 pub gen_unary_op-gen_expr-requires-in-None : goal.gen_unary_op-gen_expr-requires-in-None
 gen_unary_op-gen_expr-requires-in-None t c = (omega (arith, c.decreases, c.requires.fits), walk (built {d = c.args.context.now} c.push-in-None.ensures.keeps.list start) c.requires.script (omega (arith, c.requires.fits)))
@@ -851,10 +858,10 @@ pub gen_while_loop-returns : goal.gen_while_loop-returns
 gen_while_loop-returns t c = walks (built {d = c.gen_statement.new.context} (keeps_then (c.jump.ensures (file_of c.args.t.now)).keeps (c.mark_label-2.ensures (file_of c.args.t.now)).keeps).list (walked c.gen_statement.ensures (built {d = c.gen_expr.new.context} (keeps_then (c.action.ensures (file_of c.args.t.now)).keeps (c.branch-context.ensures (file_of c.args.t.now)).keeps).list (walked c.gen_expr.ensures (built {d = c.args.context.now} (keeps_then (c.create_label-start.ensures (file_of c.args.t.now)).keeps (keeps_then (c.create_label-end.ensures (file_of c.args.t.now)).keeps (c.mark_label.ensures (file_of c.args.t.now)).keeps)).list start))))) (while_arm c.args.t.now.script.layout c.args.t.now.part c.kid-condition.ensures.kid (loop_of c.loop_to-inner.result) c.loop_to-inner.ensures (c.create_label-start.ensures (file_of c.args.t.now)).does (c.create_label-end.ensures (file_of c.args.t.now)).does (c.mark_label.ensures (file_of c.args.t.now)).does (rw c.kid-condition.ensures.script at c.gen_expr.ensures.does) (c.action.ensures (file_of c.args.t.now)).does (c.branch-context.ensures (file_of c.args.t.now)).does c.gen_statement.ensures.does (c.jump.ensures (file_of c.args.t.now)).does (c.mark_label-2.ensures (file_of c.args.t.now)).does)
 
 pub goto-gen_expr-requires : goal.goto-gen_expr-requires
-goto-gen_expr-requires t c = (omega (arith, c.decreases, c.requires.fits), walk start c.requires.script (omega (arith, c.requires.fits)))
+goto-gen_expr-requires t c = (omega (arith, c.decreases), c.requires)
 
 pub goto-gen_expr-requires-in-None : goal.goto-gen_expr-requires-in-None
-goto-gen_expr-requires-in-None t c = (omega (arith, c.decreases, c.requires.fits), walk start c.requires.script (omega (arith, c.requires.fits)))
+goto-gen_expr-requires-in-None t c = (omega (arith, c.decreases), c.requires)
 
 pub goto-invariant_of-context : goal.goto-invariant_of-context
 goto-invariant_of-context t c = record { laid_out = c.args.context.now.laid_out; indexed = index_stays (keeps_then c.goto_label.ensures.keeps (c.play_if.ensures (file_of c.args.t.now)).keeps).pool c.args.context.now.indexed }
@@ -881,28 +888,28 @@ pub goto-returns-in-Some-String : goal.goto-returns-in-Some-String
 goto-returns-in-Some-String t c = walks (built {d = c.args.context.now} (keeps_then c.goto_label.ensures.keeps (c.play_if.ensures (file_of c.args.t.now)).keeps).list start) (rw (literal_of (is_node _ _ _ c.args.t.now.within c.node-node.ensures.node), ← literal_is (file_of c.args.t.now) c.node-node.result.root, ← c.literal_of.ensures, c.in-Some-String.is, c.in-Some-String.field-0-is, ← text_is (file_of c.args.t.now) c.in-Some-String.s c.args.t.now.within.sound.short) (goto_label_arm c.args.t.now.script.layout c.args.t.now.part (text_in (file_of c.args.t.now) c.in-Some-String.s) c.args.play (c.goto_label.ensures.runs (file_of c.args.t.now) (literal_named (file_of c.args.t.now) c.node-node.result.number c.node-node.result.root c.in-Some-String.s (is_node _ _ _ c.args.t.now.within c.node-node.ensures.node).named (sym c.literal_of.ensures ∙ (rw c.in-Some-String.field-0-is at c.in-Some-String.is)))).does (c.play_if.ensures (file_of c.args.t.now)).does))
 
 pub one-gen_expr-requires : goal.one-gen_expr-requires
-one-gen_expr-requires t c = (omega (arith, c.decreases, c.requires.walk.fits), walk start c.requires.walk.script (omega (arith, c.requires.walk.fits)))
+one-gen_expr-requires t c = (omega (arith, c.decreases), c.requires.walk)
 
 pub one-gen_expr-requires-in-Case : goal.one-gen_expr-requires-in-Case
 one-gen_expr-requires-in-Case t c = (omega (arith, c.decreases, c.requires.walk.fits), walk (built {d = c.args.context.now} (c.push_if.ensures (file_of c.args.t.now)).keeps.list start) c.requires.walk.script (omega (arith, c.requires.walk.fits)))
 
 pub one-gen_expr-requires-in-Discarded : goal.one-gen_expr-requires-in-Discarded
-one-gen_expr-requires-in-Discarded t c = (omega (arith, c.decreases, c.requires.walk.fits), walk start c.requires.walk.script (omega (arith, c.requires.walk.fits)))
+one-gen_expr-requires-in-Discarded t c = (omega (arith, c.decreases), c.requires.walk)
 
 pub one-gen_expr-requires-in-Field : goal.one-gen_expr-requires-in-Field
 one-gen_expr-requires-in-Field t c = (omega (arith, c.decreases, c.requires.walk.fits), walk (acted (c.push_string.ensures (rw c.requires.walk.script ((c.name_of-key.ensures (file_of c.args.t.now) c.node-node.result.number c.args.t.now.within.sound.short (is_node _ _ _ c.args.t.now.within c.node-node.ensures.node).named).1))) start) c.requires.walk.script (omega (arith, c.requires.walk.fits)))
 
 pub one-gen_statement-requires : goal.one-gen_statement-requires
-one-gen_statement-requires t c = (omega (arith, c.decreases, c.requires.walk.fits), walk start c.requires.walk.script (omega (arith, c.requires.walk.fits)))
+one-gen_statement-requires t c = (omega (arith, c.decreases), c.requires.walk)
 
 pub one-gen_statement-requires-then-is_hoisted : goal.one-gen_statement-requires-then-is_hoisted
-one-gen_statement-requires-then-is_hoisted t c = (omega (arith, c.decreases, c.requires.walk.fits), walk start c.requires.walk.script (omega (arith, c.requires.walk.fits)))
+one-gen_statement-requires-then-is_hoisted t c = (omega (arith, c.decreases), c.requires.walk)
 
 pub one-gen_statement-requires-then-not-is_hoisted : goal.one-gen_statement-requires-then-not-is_hoisted
-one-gen_statement-requires-then-not-is_hoisted t c = (omega (arith, c.decreases, c.requires.walk.fits), walk start c.requires.walk.script (omega (arith, c.requires.walk.fits)))
+one-gen_statement-requires-then-not-is_hoisted t c = (omega (arith, c.decreases), c.requires.walk)
 
 pub one-gen_statement-requires-then-seen-ne0 : goal.one-gen_statement-requires-then-seen-ne0
-one-gen_statement-requires-then-seen-ne0 t c = (omega (arith, c.decreases, c.requires.walk.fits), walk start c.requires.walk.script (omega (arith, c.requires.walk.fits)))
+one-gen_statement-requires-then-seen-ne0 t c = (omega (arith, c.decreases), c.requires.walk)
 
 pub one-invariant_of-context : goal.one-invariant_of-context
 one-invariant_of-context t c = record { laid_out = c.gen_expr-in-Discarded.new.context.laid_out; indexed = index_stays (c.truncate_stack.ensures (file_of c.args.t.now)).keeps.pool c.gen_expr-in-Discarded.new.context.indexed }

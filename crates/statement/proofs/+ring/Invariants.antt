@@ -15,11 +15,8 @@ decreases-adjust l = 8 * l.t.now.part.n + cond l.discard 3 4
 abbrev pub decreases-args : goal.decreases-args
 decreases-args l = 8 * l.t.now.part.n + 3
 
-abbrev pub invariant-args-loop-left : goal.invariant-args-loop-left
-invariant-args-loop-left l = Pushes l.t l.fn.context l.left l.context × (length l.scratch ≡ length l.initial.scratch)
-
-abbrev pub decreases-args-loop-left : goal.decreases-args-loop-left
-decreases-args-loop-left l = l.left.part.n
+abbrev pub invariant-args-loop-tree : goal.invariant-args-loop-tree
+invariant-args-loop-tree l = Pushes l.t l.fn.context l.tree-iterator l.context × (length l.scratch ≡ length l.initial.scratch)
 
 abbrev pub decreases-drag : goal.decreases-drag
 decreases-drag l = 8 * l.t.now.part.n + 5
