@@ -6,8 +6,9 @@ use mathlib.Core.List.{List, [], ◌∷◌, ◌++◌, map, reverse}
 use mathlib.Core.Bool.{Bool, true, false}
 use native.Mathlib.Omega.{arith}
 use lib.Dec.{T, eqb, ltb}
-use lib.ListN.{length, get_or, set, take, drop, length-take, length-drop, length-append, length-set, get_or-replicate}
+use lib.ListN.{length, get_or, set, take, drop, replicate, length-take, length-drop, length-append, length-set, get_or-replicate}
 use lib.Seq.{take-length, get_or-set_same, get_or-set_other, get_or-drop, get_or-take, ext_get_or}
+use borrow.Rule.Slice.PartMut.{put_mid}
 use borrow.Author.Tests.{eqb-true, eqb-false, ltb-true, ltb-false}
 use Rattle.pcode.specs.Pcode.{Plain, Item}
 use Rattle.lowering.specs.Builder.{limits01}
@@ -36,7 +37,8 @@ use Rattle.builder.proofs.Leaves.{cut_same}
 use Rattle.builder.proofs.Words.{getD_put, entry_same, entry_other, entry_side}
 use Rattle.builder.proofs.Move.{same_inside, side_word, part_more}
 use Rattle.builder.proofs.Ended.{rising_snoc, cut_snoc, run_moved, run_snoc}
-use Rattle.builder.proofs.FinishWords.{same_entries, located_append}
+use Rattle.builder.proofs.Filled.{fills}
+use Rattle.builder.proofs.FinishWords.{cleared, same_entries, located_append}
 use Rattle.builder.proofs.FinishReads.{cut_written, no_counts, all_named, run_reads, joined_map, cut_reads, pool_first, all_both, all_taken}
 
 -- a table of words, and zeros after it
@@ -298,6 +300,10 @@ copied_entry k j h = rw (k.same (j * 3) (omega arith), k.same (j * 3 + 1) (omega
 first_action : (a c : Plain) (is : List Item) (ls : List (List Item)) (l : ℕ) → label_word ((plain a ∷ is) ∷ ls) l ≡ label_word ((plain c ∷ is) ∷ ls) l
 unfolding label_word
 first_action a c is ls l = refl
+
+pub labels_cleared : {w0 : List ℕ} {b : BuilderState} {low : ℕ} {w1 ys : List ℕ} → Fine b w0 → Moved w0 b.low b.top low 4096 w1 →
+    ys ≡ replicate (length (take 1024 (drop 12288 (set w1 (13312 + b.lists) low)))) 0 → Cleared (set w1 (13312 + b.lists) low) (put_mid 12288 1024 (set w1 (13312 + b.lists) low) ys)
+labels_cleared {b = b} {low} {w1} f m e = cleared (fills (set w1 (13312 + b.lists) low) 12288 1024 (omega (arith, length-set w1 (13312 + b.lists) low, m.long, f.long)) e)
 
 module _ (w0 : List ℕ) (b : BuilderState) (f : Fine b w0) (bottom : b.base ≡ 4096) {low : ℕ} {w1 : List ℕ} (m : Moved w0 b.low b.top low 4096 w1)
     {w2 : List ℕ} (c : Cleared (set w1 (13312 + b.lists) low) w2) where

@@ -2,9 +2,9 @@
 ghost use Rattle.codegen_state.specs.Does.{Fine, Fine-prop};
 
 use crate::entries::{grow, grow_marked, value_entry};
-use codegen_state::{BuilderState, LABELS, MAX_ACTIONS, MAX_VALUES, Stop};
+use codegen_state::{BuilderState, Stop};
 use pcode::{Label, Op, PushValue, row_of};
-use slice_words::code;
+use slice_words::{Entry, LABELS_AT, MAX_ACTIONS, MAX_VALUES, code, entry_at};
 
 // The lists under construction, in the lent words of the list slice and the pool's index.
 #[derive(Drop)]
@@ -53,7 +53,12 @@ impl CodeBuilder<'_> {
         }
         let list = &mut *self.list;
         let state = &mut self.state;
-        grow(list, state, code, first, 0, 1, 0, 0, size);
+        let entry = Entry {
+            code,
+            first,
+            second: 0,
+        };
+        grow(list, state, entry, 1, 0, 0, size);
     }
 
     pub fn action(&mut self, o: Op)
@@ -118,7 +123,7 @@ impl CodeBuilder<'_> {
         ensures { (F : List ℕ) → result ≡ ends_in_push (gather F (open_of self.now.state self.now.list.now)) }
     {
         let top = self.state.top;
-        top < self.state.base && code::FIRST_VALUE <= self.list[top * 3]
+        top < self.state.base && code::FIRST_VALUE <= entry_at(self.list, top).code
     }
 
     pub fn push(&mut self, v: PushValue)
@@ -137,17 +142,11 @@ impl CodeBuilder<'_> {
         if self.joins() {
             let list = &mut *self.list;
             let state = &mut self.state;
-            grow(
-                list,
-                state,
-                x.code + (code::LATER_VALUE - code::FIRST_VALUE),
-                x.first,
-                x.second,
-                0,
-                1,
-                0,
-                size,
-            );
+            let later = Entry {
+                code: x.code + (code::LATER_VALUE - code::FIRST_VALUE),
+                ..x
+            };
+            grow(list, state, later, 0, 1, 0, size);
             return;
         }
         if MAX_ACTIONS <= self.state.actions {
@@ -156,7 +155,7 @@ impl CodeBuilder<'_> {
         }
         let list = &mut *self.list;
         let state = &mut self.state;
-        grow(list, state, x.code, x.first, x.second, 1, 1, 0, size);
+        grow(list, state, x, 1, 1, 0, size);
     }
 
     // Only ever down: after a ternary one of two values is there.
@@ -186,7 +185,7 @@ impl CodeBuilder<'_> {
             self.state.refused = Some(stop);
             return;
         }
-        if self.list[LABELS + l as usize] != 0 {
+        if self.list[LABELS_AT + l as usize] != 0 {
             self.state.refused = Some(stop);
             return;
         }

@@ -8,8 +8,9 @@ ghost use Rattle.builder.specs.Labels.{labels_of_forest, elements_from};
 ghost use Rattle.builder.specs.Runs.{Keeps, Runs};
 
 use crate::builder::CodeBuilder;
-use codegen_state::{MAX_LABELS, Stop};
+use codegen_state::Stop;
 use pcode::Label;
+use slice_words::MAX_LABELS;
 
 impl CodeBuilder<'_> {
     // The label is the number of labels made before.

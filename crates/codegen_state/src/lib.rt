@@ -4,21 +4,12 @@
 ghost use Rattle.std.specs.Prelude.{◌≡◌};
 ghost use Rattle.codegen_state.specs.Stop.{number_of};
 
-// Areas by their first words: labels, and behind the slice the heads and the links of the pool's index.
-pub const LABELS: usize = 12288;
+use slice_words::LIST_WORDS;
 
-pub const HEADS: usize = 16384;
+// Behind the slice's words stand those of the pool's index: a head for each hash, and a link for each string.
+pub const HEADS: usize = LIST_WORDS;
 
-pub const LINKS: usize = 18432;
-
-// The slice's entries, and document 01's limits.
-pub const MAX_ENTRIES: usize = 4096;
-
-pub const MAX_ACTIONS: u32 = 1024;
-
-pub const MAX_VALUES: u32 = 2048;
-
-pub const MAX_LABELS: u32 = 1024;
+pub const LINKS: usize = HEADS + 2048;
 
 // Why no step is done any more. The discriminants are the refusals' numbers; no script of ours marks a label twice.
 #[derive(Clone, Copy, Debug, PartialEq, Eq)]

@@ -23,12 +23,14 @@ pub const POOL_AT: usize = 14336;
 // The words of the slice that a list needs.
 pub const LIST_WORDS: usize = 16384;
 
-// The entries that the slice holds, and document 01's limits of actions and of pushed values.
+// The entries that the slice holds, and document 01's limits of actions, pushed values and labels.
 pub const MAX_ENTRIES: usize = 4096;
 
 pub const MAX_ACTIONS: u32 = 1024;
 
 pub const MAX_VALUES: u32 = 2048;
+
+pub const MAX_LABELS: u32 = 1024;
 
 // The reference of an empty string that comes from no string of the file.
 pub const NO_STRING: u32 = 0xffff_ffff;
