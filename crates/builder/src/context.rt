@@ -17,16 +17,7 @@ impl CodeBuilder<'_> {
     pub fn create_label(&mut self) -> Label
         ensures { (F : List ℕ) → Runs F create_label self.old result.0 self.new }
     {
-        let label = Label(self.state.labels);
-        if self.state.refused.is_some() {
-            return label;
-        }
-        if MAX_LABELS <= self.state.labels {
-            self.state.refused = Some(Stop::TooMany);
-            return label;
-        }
-        self.state.labels += 1;
-        label
+        self.create_labels(1)
     }
 
     // A label for each Case and Default of a switch, in order, the first of them the number of labels made before.
@@ -35,6 +26,7 @@ impl CodeBuilder<'_> {
         ensures bound { result.0 ≤ 1024 }
         ensures runs { (F : List ℕ) (ms : Forest Meaning) → labels_of_forest ms ≡ n →
             Runs F (with_labels ms) self.old (elements_from result.0 ms) self.new }
+        ensures one { n ≡ 1 → (F : List ℕ) → Runs F create_label self.old result.0 self.new }
     {
         let first = Label(self.state.labels);
         if self.state.refused.is_some() {
