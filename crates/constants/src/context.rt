@@ -50,15 +50,14 @@ impl<'a> ScriptContext<'a> {
 
     // The first of the pool's strings with the same bytes, among those with the same hash h.
     fn find(&self, s: u32, h: u32) -> Option<u32>
-        requires { (h ≡ hash (text_in self.now.script.bytes.now s)) × (h < 2048) }
+        requires { h ≡ hash (text_in self.now.script.bytes.now s) }
         ensures { found_of result ≡ place self.now.script.bytes.now (pool_of self.now.builder.state self.now.builder.list.now) s }
     {
         let sought = self.text(s);
         let list = &*self.builder.list;
         let mut next = list[HEADS + h as usize];
         let mut found = None;
-        while next != 0 {
-            let i = next - 1;
+        while let Some(i) = next.checked_sub(1) {
             let at = i as usize;
             if self.same_text(sought, s, list[POOL_AT + at]) {
                 found = Some(i);
@@ -71,7 +70,7 @@ impl<'a> ScriptContext<'a> {
     // A string that the pool does not hold joins it if the total stays a 16-bit number. The value is pushed first: it makes the room for the pool's word.
     fn push_new(&mut self, s: u32, h: u32)
         requires going { IsNone self.old.builder.state.refused }
-        requires h_value { (h ≡ hash (text_in self.old.script.bytes.now s)) × (h < 2048) }
+        requires h_value { h ≡ hash (text_in self.old.script.bytes.now s) }
         ensures { T (names_string self.old.script.bytes.now s) →
             place self.old.script.bytes.now (pool_of self.old.builder.state self.old.builder.list.now) s ≡ none →
             Acts (push_string (text_in self.old.script.bytes.now s)) self.old tt self.new }

@@ -7,6 +7,9 @@ ghost use Rattle.codegen_state.specs.Index.{word, mixed, rounds, hash};
 
 pub mod context;
 
+// The longest string of which all bytes are hashed.
+const WHOLE: usize = 4096;
+
 // Four bytes as one number, which the compiler reads at once.
 fn word(s: &[u8], i: usize) -> u64
     requires { i + 4 ≤ length s.now }
@@ -38,7 +41,7 @@ fn rounds(n: usize) -> usize
     requires { 4 ≤ n }
     ensures { (result ≡ rounds n) × (4 * result ≤ n) }
 {
-    if 4096 < n {
+    if WHOLE < n {
         return 32;
     }
     n / 8 + 1
