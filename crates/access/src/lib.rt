@@ -11,7 +11,7 @@ ghost use Rattle.codegen_state.specs.View.{named, value_in};
 ghost use Rattle.tree.specs.Within.{constant_named};
 ghost use Rattle.builder.specs.Runs.{Runs};
 ghost use Rattle.constants.specs.Acts.{Acts};
-ghost use Rattle.access.specs.Accesses.{access_of, pushed_direct, set_and_push, call_register};
+ghost use Rattle.access.specs.Accesses.{access_of, pushed_direct, call_register};
 
 use builder::builder::CodeBuilder;
 use codegen_state::Stop;
@@ -111,10 +111,13 @@ impl Access {
         ensures { (F : List ℕ) → Runs F (get_and_set_value (access_of self)) builder.old tt builder.new }
     {
         match self {
-            Access::Variable => set_and_push(builder, Op::SetVariable),
-            Access::Object => set_and_push(builder, Op::SetMember),
+            // The value goes through register 0, and is left on the stack.
+            Access::Variable | Access::Object | Access::SpecialProperty => {
+                builder.store_register(0);
+                self.set_value(builder);
+                builder.push(PushValue::Register(0));
+            }
             Access::Direct => builder.refuse(Stop::NotAssignable),
-            Access::SpecialProperty => set_and_push(builder, Op::SetProperty),
             Access::Register(r) => builder.store_register(r),
         }
     }
@@ -162,15 +165,6 @@ fn direct(context: &mut ScriptContext, v: PushValue) -> Access
 {
     context.builder.push(v);
     Access::Direct
-}
-
-// The value goes through register 0, and is left on the stack.
-fn set_and_push(builder: &mut CodeBuilder, o: Op)
-    ensures { (F : List ℕ) → Runs F (set_and_push o) builder.old tt builder.new }
-{
-    builder.store_register(0);
-    builder.action(o);
-    builder.push(PushValue::Register(0));
 }
 
 // A register holds the object itself: it is called without a name.
