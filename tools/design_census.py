@@ -8,6 +8,8 @@
   python3 tools/design_census.py --crates   the same places, crate by crate
   python3 tools/design_census.py --left     the places without a reason in tools/design_kept, crate by crate
   python3 tools/design_census.py --kept     how many have one, and the reasons that no place or no source has
+  python3 tools/design_census.py --reasons  the places that have one, each with its reason, as tables
+  python3 tools/design_census.py --other    what the greps of docs/DESIGN-PASS.md count, at the first commit and now
 
 It reads the text alone. A place is a line `crate/src/file.rt: item | what it is`.
 """
@@ -17,6 +19,7 @@ import glob
 import os
 import re
 import signal
+import subprocess
 import sys
 
 ROOT = os.path.join(os.path.dirname(os.path.abspath(__file__)), '..')
@@ -804,11 +807,45 @@ def print_kept(chosen):
             print(f'not in the source: {" | ".join(map(str, r))}')
 
 
+def print_reasons(chosen):
+    """The places of each point that have a reason, by the reason."""
+    all_reasons = list(reasons())
+    for n in chosen:
+        by = collections.OrderedDict()
+        for where, what in POINTS[n][1]():
+            r = reason_of(all_reasons, n, where, what)
+            if r and r[2] != 'n':
+                by.setdefault(r, []).append(f'{where}: {what}')
+        print(f'\n### Point {n}\n\n| Places | | Reason |\n|---|---|---|')
+        for r in sorted(by, key=lambda r: r[2]):
+            places = '<br>'.join(p.replace('|', '\\|') for p in by[r])
+            print(f'| {places} | {r[2]} | {r[4].replace("|", chr(92) + "|")} (`{r[3]}`) |')
+
+
+def print_other():
+    """The page's counts in one other way, then and now."""
+    point = ''
+    print('| Point | Counted | Then | Now |\n|---|---|---:|---:|')
+    for line in open('docs/DESIGN-PASS.md'):
+        head = re.match(r'## (\d)\. ', line)
+        point = head.group(1) if head else point
+        m = re.match(r'- `(.*)`: (\d+) (.*)', line)
+        if m:
+            now = subprocess.run(['bash', '-c', m.group(1)], capture_output=True, text=True).stdout.strip()
+            print(f'| {point} | {m.group(3).replace("|", chr(92) + "|")} | {m.group(2)} | {now} |')
+
+
 def main():
     args = sys.argv[1:]
     chosen = [int(a) for a in args if a.isdigit()] or list(POINTS)
     if '--kept' in args:
         print_kept(chosen)
+        return
+    if '--other' in args:
+        print_other()
+        return
+    if '--reasons' in args:
+        print_reasons(chosen)
         return
     all_reasons = list(reasons()) if '--left' in args else []
     if '--crates' in args or '--left' in args:
