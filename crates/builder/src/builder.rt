@@ -36,7 +36,8 @@ impl CodeBuilder<'_> {
         }
     }
 
-    // An action of a code and its first word, after which the stack has this size.
+    // An action of a code and its first word, after which the stack has this size. The two are words of the slice, which programs in other languages read as
+    // numbers. Here and below `Keeps` holds whatever the words are, and `Runs` where they say something.
     fn emit(&mut self, code: u32, first: u32, size: u32)
         requires entry { Emits code first }
         requires size_bound { size ≤ self.old.state.size + 1 }
@@ -69,7 +70,7 @@ impl CodeBuilder<'_> {
         self.emit(row.code, 0, size);
     }
 
-    // An action whose caller says by how much the stack falls.
+    // An action whose caller says by how much the stack falls, which its row does not know.
     pub fn action_down(&mut self, o: Op, down: u32)
         ensures { (F : List ℕ) → Runs F (plain_action (op o) (Delta.down down)) self.old tt self.new }
     {
@@ -77,6 +78,8 @@ impl CodeBuilder<'_> {
         self.emit(row_of(o).code, 0, size);
     }
 
+    // From here on each action with a word is a step of its own: its code, its word and its size are all that `emit` takes, so that one function for them would be
+    // `emit` again.
     pub fn store_register(&mut self, register: u8)
         ensures { (F : List ℕ) → Runs F (access.store_register register) self.old tt self.new }
     {
@@ -105,6 +108,7 @@ impl CodeBuilder<'_> {
         self.emit(code::GOTO_LABEL, string, self.state.size);
     }
 
+    // A jump, a branch and a mark take their label and nothing that travels with it.
     pub fn jump(&mut self, label: Label)
         ensures { (F : List ℕ) → Runs F (statement.jump label.0) self.old tt self.new }
     {
@@ -194,6 +198,7 @@ impl CodeBuilder<'_> {
         grow_marked(list, state, l);
     }
 
+    // The marks of a script and of a Default are two steps of the definition, told apart by the refusal that they hand on.
     pub fn mark_label(&mut self, label: Label)
         ensures { (F : List ℕ) → Runs F (steps.mark_label label.0) self.old tt self.new }
     {

@@ -13,7 +13,7 @@ use pcode::Label;
 use slice_words::MAX_LABELS;
 
 impl CodeBuilder<'_> {
-    // The label is the number of labels made before.
+    // The label is the number of labels made before. One label is a step of the definition, and so a method, though `create_labels` makes it.
     pub fn create_label(&mut self) -> Label
         ensures { (F : List ℕ) → Runs F create_label self.old result.0 self.new }
     {
@@ -21,6 +21,7 @@ impl CodeBuilder<'_> {
     }
 
     // A label for each Case and Default of a switch, in order, the first of them the number of labels made before.
+    // `n` is how many: with the numbers of this name in other crates it has only its type in common.
     pub fn create_labels(&mut self, n: u32) -> Label
         ensures keeps { Keeps self.old self.new }
         ensures bound { result.0 ≤ 1024 }

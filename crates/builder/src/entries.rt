@@ -1,4 +1,4 @@
-// Entries of the list slice: three words each.
+// Entries of the list slice.
 ghost use Rattle.std.specs.Prelude.{◌≡◌, ◌+◌, ◌*◌, ◌<◌, ◌≤◌, length};
 ghost use Rattle.codegen_state.specs.Does.{Fine};
 ghost use Rattle.builder.specs.Entries.{put3, Grown, Marked};
@@ -8,6 +8,7 @@ use codegen_state::BuilderState;
 use pcode::PushValue;
 use slice_words::{Entry, LABELS_AT, code};
 
+// Three words in a row, as programs in other languages read an entry: its code is one of them. They are handed one by one, since `grow` alone has them together.
 pub fn put(list: &mut [u32], i: usize, code: u32, first: u32, second: u32)
     requires { i * 3 + 2 < length list.old }
     ensures { list.new ≡ put3 list.old i code first second }

@@ -13,7 +13,8 @@ use codegen_state::BuilderState;
 use pcode::{Label, Position};
 use slice_words::{ENDS_AT, LABELS_AT, MAX_ENTRIES, MAX_LABELS, code, entry_at};
 
-// A label's word is its position plus 1, so that 0 says that no list marks it.
+// A label's word is its position plus 1, so that programs in other languages read 0 where no list marks it, and the first mark stays. The resolver's places are a
+// table of its own in which a mark writes the bare position: the two share a bound and an assignment.
 fn set_place(list: &mut [u32], l: Label, p: Position)
     requires in_bounds { 13312 ≤ length list.old }
     requires p_bound { p.0 ≤ 4096 }
@@ -30,7 +31,7 @@ fn set_place(list: &mut [u32], l: Label, p: Position)
     list[at] = p.0 + 1;
 }
 
-// The label that entry i marks, if it is a mark.
+// The label that entry i marks, if it is a mark. The resolver's `mark_entry` has the test in common, but not the table.
 fn set_place_at(list: &mut [u32], i: usize, p: Position)
     requires in_bounds { 13312 ≤ length list.old }
     requires i_bound { i < 4096 }
@@ -43,7 +44,8 @@ fn set_place_at(list: &mut [u32], i: usize, p: Position)
     }
 }
 
-// How many actions an entry adds to its list, by its code and that of the entry before: a mark adds none, and a later value joins the Push before it.
+// How many actions an entry adds to its list, by its code and that of the entry before: a mark adds none, and a later value joins the Push before it. The codes are
+// the slice's words. The resolver asks the code alone, since of its lists it is known that a later value has a Push before it; of those here it is not.
 fn actions_added(code: u32, before: u32) -> u32
     ensures { result ≡ actions_added code before }
 {

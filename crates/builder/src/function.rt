@@ -37,7 +37,8 @@ impl CodeBuilder<'_> {
         outer
     }
 
-    // `function` is the number of the function's record, and `up` is 1 if it leaves a value.
+    // `function` is the number of the function's record, and `up` is how many values it leaves, 0 or 1, a count that is added to the stack's size. As in `emit`, the
+    // refusal and the limit are tested where the step stops: a function of the two tests would hand back a bool to be tested in their place.
     pub fn end_function(&mut self, outer: Outer, function: u32, up: u32)
         requires ready { Ready self.old.state self.old.list.now outer.base outer.size }
         requires up_bound { up ≤ 1 }
@@ -58,6 +59,7 @@ impl CodeBuilder<'_> {
     }
 }
 
+// The reader's `close` has the last entry alone in common: it counts no actions and sizes, and settles branches entry by entry.
 // The list under construction joins the finished ones, and an entry in the place of its first one has the function's number.
 fn close(list: &mut [u32], state: &mut BuilderState, outer: Outer, function: u32, up: u32)
     requires fine { Fine state.old list.old }

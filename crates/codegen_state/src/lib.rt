@@ -22,6 +22,7 @@ pub enum Stop {
 }
 
 impl Stop {
+    // The discriminant, by a name that says what it is, as a Refusal has it: a From into u32 would say less.
     pub fn number(self) -> u32
         ensures { result ≡ number_of self }
     {
@@ -32,7 +33,7 @@ impl Stop {
 // After `refused` no step is done. Counted over all lists: actions, push values, labels made, marks, strings of
 // the pool, finished lists. `total` is the pool's 16-bit total, `size` the tracked stack size, `sizes` the sum of those of the lists that wait for a
 // function's list to end. The finished lists end before entry `low`; the list under construction stands from entry `top` to `base`, its last entry
-// first, and the lists that wait from `base` on.
+// first, and the lists that wait from `base` on. Those are positions in the lent words, since the two calls use no heap.
 #[derive(Clone, Copy)]
 pub struct BuilderState {
     pub actions: u32,
