@@ -37,8 +37,8 @@ impl CodeBuilder<'_> {
         outer
     }
 
-    // `function` is the number of the function's record, and `up` is how many values it leaves, 0 or 1, a count that is added to the stack's size. As in `emit`, the
-    // refusal and the limit are tested where the step stops: a function of the two tests would hand back a bool to be tested in their place.
+    // `function` is the number of the function's record, and `up` is how many values it leaves, 0 or 1, a count that is added to the stack's
+    // size.
     pub fn end_function(&mut self, outer: Outer, function: u32, up: u32)
         requires ready { Ready self.old.state self.old.list.now outer.base outer.size }
         requires up_bound { up ≤ 1 }
