@@ -25,7 +25,6 @@ use Rattle.codegen_state.specs.View.{gather, labels_of, ends_of, pool_of, open_o
 use Rattle.codegen_state.specs.Does.{Begins, Fine, Named, Ready, Ends}
 use Rattle.codegen_state.proofs.Steps.{held_stopped, held_holds}
 use Rattle.codegen_state.proofs.Index.{indexed_same}
-use Rattle.slice_words.proofs.Items.{length_cut}
 use Rattle.builder.specs.Entries.{ended, Closed}
 use Rattle.builder.specs.Move.{Moved}
 use Rattle.builder.proofs.Leaves.{refused_with, refuses, room_action, run_same, cut_same, gather_more}
@@ -41,6 +40,11 @@ pub cut_snoc : (w : List ℕ) (p : ℕ) (es : List ℕ) (low e : ℕ) → Rising
 unfolding cut
 cut_snoc w p [] low e h = rw h
 cut_snoc w p (x ∷ es) low e h = ap (λ (z : List (List Entry)). run w p (x - p) ∷ z) (cut_snoc w x es low e h.1)
+
+pub length_cut : (w : List ℕ) (p : ℕ) (es : List ℕ) → length (cut w p es) ≡ length es
+unfolding cut
+length_cut w p [] = refl
+length_cut w p (e ∷ es) = ap suc (length_cut w e es)
 
 -- entries moved from elsewhere
 pub run_moved : (w w' : List ℕ) (i j n : ℕ) → ((k : ℕ) → k < n → entry_at w' (i + k) ≡ entry_at w (j + k)) → run w' i n ≡ run w j n

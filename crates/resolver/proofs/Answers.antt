@@ -36,8 +36,7 @@ use Rattle.resolver.specs.Passes.{walked_at, number_at, sizes_at, near_list, nea
 use Rattle.resolver.specs.Resolved.{place_at, Tables, Resolves, refused, good}
 use Rattle.resolver.proofs.Whole.{split, lists_count, walked_list}
 use Rattle.resolver.proofs.Stand.{list_by_place}
-use Rattle.slice_words.proofs.Items.{actions_append, actions_reverse}
-use Rattle.resolver.proofs.Sizing.{reverse_more, body_sizes, lists, rules, body_of, sizes_at_lem, sized}
+use Rattle.resolver.proofs.Sizing.{actions_reverse, actions_append, reverse_more, body_sizes, lists, rules, body_of, sizes_at_lem, sized}
 
 -- tests over a row
 
@@ -118,11 +117,14 @@ near_last ss f i (x ∷ xs) a =
     swap false true c = refl
     swap false false c = refl
 
+count_reverse : (is : List Item) → length (actions (reverse is)) ≡ length (actions is)
+count_reverse = actions_reverse
+
 near_is : (ss : List ℕ) (f : ℕ → ℕ) (is : List Item) → all_near_in ss f is ≡ near-from ss f 0 (actions (reverse is))
 unfolding all_near_in
 near_is ss f [] = refl
 near_is ss f (action a ∷ is) =
-    ap₂ (λ (n : ℕ) (b : Bool). near_item ss f n a && b) (sym (zero-add (length (actions (reverse is))) ∙ actions_reverse is)) (near_is ss f is)
+    ap₂ (λ (n : ℕ) (b : Bool). near_item ss f n a && b) (sym (zero-add (length (actions (reverse is))) ∙ count_reverse is)) (near_is ss f is)
     ∙ sym (ap (λ (l : List Item). near-from ss f 0 (actions l)) (reverse_more (action a) is)
     ∙ ap (near-from ss f 0) (actions_append (reverse is) (action a ∷ [])) ∙ near_last ss f 0 (actions (reverse is)) a)
 near_is ss f (mark l ∷ is) =
