@@ -1,15 +1,39 @@
 -- Lists by place: a label that is marked once leads to its mark, and no place is past the list's end.
 use Prim.Native.Nat.{ℕ, zero, suc, ◌+◌, ◌≤◌}
-use mathlib.Core.Path.{◌≡◌, ap, subst}
-use mathlib.Core.List.{List, [], ◌∷◌, map}
+use mathlib.Core.Path.{◌≡◌, refl, ap, ◌∙◌, subst}
+use mathlib.Core.List.{List, [], ◌∷◌, ◌++◌, map, reverse, reverse-cons, append-nil}
 use mathlib.Core.Option.{some}
 use mathlib.Core.Bool.{Bool, true, false}
 use native.Mathlib.Omega.{arith}
 use lib.Dec.{eqb}
-use lib.ListN.{length, get_elem?, length-map}
+use lib.ListN.{length, get_elem?, length-append, length-map}
 use Rattle.pcode.specs.Pcode.{Action, Item, action, mark}
 use Rattle.action_format.specs.ByPlace.{actions, marked, first_or, place_of_label, rebranch, items_by_place}
 use Rattle.action_format.proofs.Tests.{All, never, some_of}
+
+-- items after others, and backwards
+
+pub actions_append : (xs ys : List Item) → actions (xs ++ ys) ≡ actions xs ++ actions ys
+actions_append [] ys = refl
+actions_append (action a ∷ xs) ys = ap (λ (l : List Action). a ∷ l) (actions_append xs ys)
+actions_append (mark m ∷ xs) ys = actions_append xs ys
+
+pub actions_reverse : (is : List Item) → length (actions (reverse is)) ≡ length (actions is)
+actions_reverse [] = refl
+actions_reverse (action a ∷ is) =
+    rw (reverse-cons (action a) is, actions_append (reverse is) (action a ∷ []), length-append (actions (reverse is)) (a ∷ []), actions_reverse is) (omega arith)
+actions_reverse (mark l ∷ is) = rw (reverse-cons (mark l) is, actions_append (reverse is) (mark l ∷ []), append-nil (actions (reverse is))) (actions_reverse is)
+
+pub marked_append : (n l : ℕ) (xs ys : List Item) → marked n l (xs ++ ys) ≡ marked n l xs ++ marked (n + length (actions xs)) l ys
+marked_append n l [] ys = ap (λ (k : ℕ). marked k l ys) (omega arith)
+marked_append n l (action a ∷ xs) ys = marked_append (suc n) l xs ys ∙ ap (λ (k : ℕ). marked (suc n) l xs ++ marked k l ys) (omega arith)
+marked_append n l (mark m ∷ xs) ys = go (eqb m l) (marked_append n l xs ys)
+  where
+    go : (t : Bool) → marked n l (xs ++ ys) ≡ marked n l xs ++ marked (n + length (actions xs)) l ys →
+        elim t as (λ _. List ℕ) [ true ↦ n ∷ marked n l (xs ++ ys) | false ↦ marked n l (xs ++ ys) ]
+        ≡ elim t as (λ _. List ℕ) [ true ↦ n ∷ marked n l xs | false ↦ marked n l xs ] ++ marked (n + length (actions xs)) l ys
+    go true e = ap (λ (r : List ℕ). n ∷ r) e
+    go false e = e
 
 pub marked_once : (is : List Item) (l p : ℕ) → marked 0 l is ≡ p ∷ [] → place_of_label is l ≡ p
 marked_once is l p e = rw e

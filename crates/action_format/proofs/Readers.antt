@@ -15,6 +15,11 @@ use Rattle.action_format.specs.Bytes.{Bytes, word, zero_ended, join}
 use Rattle.action_format.specs.Readers.{P, bind, ◌>>=◌, pure, fail, pure_if, read_byte, word_reader, read_string, read_bytes, spent, read_inside, read_many, read_more, read_all, dispatch}
 use Rattle.action_format.proofs.Tests.{All, given_true, never, some_of, given_some}
 
+pub word_length : (k n : ℕ) → length (word k n) ≡ k
+unfolding word
+word_length zero n = refl
+word_length (suc k) n = ap suc (word_length k (n / 256))
+
 -- what was written is read
 
 pub byte_law : (b : ℕ) (r : Bytes) → b < 256 → read_byte (b ∷ r) ≡ some (b, r)

@@ -17,7 +17,7 @@ use Rattle.list_slice.specs.Entry as piece
 use Rattle.list_slice.specs.Words.{entry_at, run, cut}
 use Rattle.list_slice.specs.File.{header_in, names_function}
 use Rattle.list_slice.proofs.Pieces.{piece_back}
-use Rattle.list_slice.proofs.Laid.{Rising}
+use Rattle.list_slice.proofs.Laid.{Rising, length_cut}
 use Rattle.list_slice.proofs.Read.{map_append}
 use Rattle.codegen_state.specs.declared.Stop.TheVariants.{TooMany}
 use Rattle.codegen_state.specs.declared.BuilderState.{BuilderState}
@@ -40,11 +40,6 @@ pub cut_snoc : (w : List ℕ) (p : ℕ) (es : List ℕ) (low e : ℕ) → Rising
 unfolding cut
 cut_snoc w p [] low e h = rw h
 cut_snoc w p (x ∷ es) low e h = ap (λ (z : List (List Entry)). run w p (x - p) ∷ z) (cut_snoc w x es low e h.1)
-
-pub length_cut : (w : List ℕ) (p : ℕ) (es : List ℕ) → length (cut w p es) ≡ length es
-unfolding cut
-length_cut w p [] = refl
-length_cut w p (e ∷ es) = ap suc (length_cut w e es)
 
 -- entries moved from elsewhere
 pub run_moved : (w w' : List ℕ) (i j n : ℕ) → ((k : ℕ) → k < n → entry_at w' (i + k) ≡ entry_at w (j + k)) → run w' i n ≡ run w j n

@@ -12,6 +12,7 @@ use Rattle.pcode.specs.declared.Op.{Op}
 use Rattle.pcode.specs.Pcode.{Jump, If, row_of, Value, Action, Item}
 use Rattle.lowering.specs.Builder.{ends_in_push}
 use Rattle.action_format.specs.ByPlace.{actions, marked}
+use Rattle.action_format.proofs.ByPlace.{actions_reverse, marked_append}
 use Rattle.list_slice.specs.Entry.{Pushed, Piece, op, ConstantPool, StoreRegister, GotoFrame, GotoLabel, GotoFrame2, branch, function, mark, value, Entry, entry, value_entry, entry_of, piece_of}
 use Rattle.list_slice.specs.Items.{References, value_of, extended, added}
 use Rattle.list_slice.specs.Compiled.{place_word}
@@ -28,29 +29,6 @@ either_more zero b c = refl
 either_more (suc a) b c = refl
 
 -- lists, the first item first
-
-marked_append : (n l : ℕ) (xs ys : List Item) → marked n l (xs ++ ys) ≡ marked n l xs ++ marked (n + length (actions xs)) l ys
-marked_append n l [] ys = let e : n + 0 ≡ n = omega arith in rw e
-marked_append n l (Item.action a ∷ xs) ys =
-    let e : n + suc (length (actions xs)) ≡ suc n + length (actions xs) = omega arith in
-    rw e (marked_append (suc n) l xs ys)
-marked_append n l (Item.mark m ∷ xs) ys = go (eqb m l) (marked_append n l xs ys)
-  where
-    go : (t : Bool) → marked n l (xs ++ ys) ≡ marked n l xs ++ marked (n + length (actions xs)) l ys →
-        (elim t as (λ _. List ℕ) [ true ↦ n ∷ marked n l (xs ++ ys) | false ↦ marked n l (xs ++ ys) ])
-        ≡ (elim t as (λ _. List ℕ) [ true ↦ n ∷ marked n l xs | false ↦ marked n l xs ]) ++ marked (n + length (actions xs)) l ys
-    go true h = ap (λ (r : List ℕ). n ∷ r) h
-    go false h = h
-
-actions_append : (xs ys : List Item) → length (actions (xs ++ ys)) ≡ length (actions xs) + length (actions ys)
-actions_append [] ys = sym (zero-add (length (actions ys)))
-actions_append (Item.action a ∷ xs) ys = rw (actions_append xs ys) (omega arith)
-actions_append (Item.mark m ∷ xs) ys = actions_append xs ys
-
-actions_reverse : (is : List Item) → length (actions (reverse is)) ≡ length (actions is)
-actions_reverse [] = refl
-actions_reverse (Item.action a ∷ is) = rw (reverse-cons (Item.action a) is, actions_append (reverse is) (Item.action a ∷ []), actions_reverse is) (omega arith)
-actions_reverse (Item.mark m ∷ is) = rw (reverse-cons (Item.mark m) is, actions_append (reverse is) (Item.mark m ∷ []), actions_reverse is) (omega arith)
 
 place_append : (xs ys : List ℕ) (n : ℕ) → place_word (xs ++ ys) n ≡ either (place_word xs 0) (place_word ys n)
 place_append [] ys n = refl

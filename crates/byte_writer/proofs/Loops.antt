@@ -1,17 +1,12 @@
 -- The loops that write a number and a pool: what is left of it, written from here on, gives the whole.
-use Prim.Native.Nat.{ℕ, zero, suc, ◌+◌, ◌-◌, ◌<◌, ◌/◌, ◌%◌}
-use mathlib.Core.Path.{◌≡◌, refl, ap, ◌∙◌}
+use Prim.Native.Nat.{ℕ, suc, ◌+◌, ◌-◌, ◌<◌, ◌/◌, ◌%◌}
+use mathlib.Core.Path.{◌≡◌, refl, ◌∙◌}
 use mathlib.Core.List.{List, [], ◌∷◌, ◌++◌}
 use native.Mathlib.Omega.{arith}
 use lib.ListN.{length, set, length-set, length-append}
 use Rattle.action_format.specs.Bytes.{word}
 use Rattle.byte_writer.specs.Written.{written_at, Room, Wrote}
 use Rattle.byte_writer.proofs.Writes.{written_append}
-
-pub word_length : (k n : ℕ) → length (word k n) ≡ k
-unfolding word
-word_length zero n = refl
-word_length (suc k) n = ap suc (word_length k (n / 256))
 
 -- bs was to be written into o₀ at `at`; into o, from next on, rest is to be
 pub record Left (o₀ : List ℕ) (at : ℕ) (bs o : List ℕ) (next : ℕ) (rest : List ℕ) : Type 0 where

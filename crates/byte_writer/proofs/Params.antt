@@ -24,10 +24,6 @@ use Rattle.slice_words.specs.References.{text_at, param_of}
 use Rattle.byte_writer.specs.Header.{param_data}
 use Rattle.byte_writer.proofs.Sizes.{ended_length}
 
-pick : {A : Type 0} (t : Bool) (x y : A) → (t ≡ true → y ≡ x) → cond t x y ≡ y
-pick true x y h = sym (h refl)
-pick false x y h = refl
-
 -- no string of a file has the number of no string
 module _ (F : List ℕ) (l : Layout) (short : length F ≤ max_bytes) where
   no_end : (r : ℕ) → r ≡ no_string → end_at F l r ≡ 0
@@ -40,7 +36,11 @@ module _ (F : List ℕ) (l : Layout) (short : length F ≤ max_bytes) where
 
   pub text_is : (r : ℕ) → text_at F l r ≡ string_at F l r
   unfolding text_at
-  text_is r = pick (eqb r no_string) [] (string_at F l r) (λ e. no_bytes r (eqb-true r no_string e))
+  text_is r = go (eqb r no_string) refl
+    where
+      go : (t : Bool) → eqb r no_string ≡ t → cond t [] (string_at F l r) ≡ string_at F l r
+      go true e = sym (no_bytes r (eqb-true r no_string e))
+      go false e = refl
 
 pub wide_length : (p : pcode.Param) → length (param_data true p) ≡ length p.name + 2
 unfolding param_data word

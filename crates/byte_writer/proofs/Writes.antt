@@ -19,13 +19,10 @@ unfolding written_at
 written_long o at [] = refl
 written_long o at (b ∷ bs) = written_long (set o at b) (at + 1) bs ∙ length-set o at b
 
-step_on : (at n : ℕ) → at + suc n ≡ (at + 1) + n
-step_on at n = omega arith
-
 pub written_append : (o : List ℕ) (at : ℕ) (x y : List ℕ) → written_at (written_at o at x) (at + length x) y ≡ written_at o at (x ++ y)
 unfolding written_at
 written_append o at [] y = rw (add-zero at)
-written_append o at (b ∷ bs) y = rw (step_on at (length bs)) (written_append (set o at b) (at + 1) bs y)
+written_append o at (b ∷ bs) y = let z : at + suc (length bs) ≡ at + 1 + length bs = omega arith in rw z (written_append (set o at b) (at + 1) bs y)
 
 pub set_first : (o : List ℕ) (i b at : ℕ) (y : List ℕ) → i < at → set (written_at o at y) i b ≡ written_at (set o i b) at y
 unfolding written_at
@@ -37,7 +34,8 @@ pub written_before : (o : List ℕ) (at : ℕ) (x y : List ℕ) → written_at (
 unfolding written_at
 written_before o at [] y = rw (add-zero at)
 written_before o at (b ∷ bs) y =
-    rw (step_on at (length bs), set_first o at b (at + 1 + length bs) y (omega arith)) (written_before (set o at b) (at + 1) bs y)
+    let z : at + suc (length bs) ≡ at + 1 + length bs = omega arith in
+    rw (z, set_first o at b (at + 1 + length bs) y (omega arith)) (written_before (set o at b) (at + 1) bs y)
 
 -- what is as long takes the place of what was written
 

@@ -34,6 +34,11 @@ run_more w i (suc m) n = ap (run w i) (suc-add m n) ∙ ap (λ (r : List Entry).
     next : (a b : ℕ) → suc a + b ≡ a + suc b
     next a b = omega arith
 
+pub length_cut : (w : List ℕ) (p : ℕ) (es : List ℕ) → length (cut w p es) ≡ length es
+unfolding cut
+length_cut w p [] = refl
+length_cut w p (e ∷ es) = ap suc (length_cut w e es)
+
 pub ends_of_cut : (w : List ℕ) (p : ℕ) (es : List ℕ) (low : ℕ) → Rising p es low → ends_from p (cut w p es) ≡ es
 unfolding ends_from cut
 ends_of_cut w p [] low h = refl

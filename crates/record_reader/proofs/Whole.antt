@@ -1,14 +1,14 @@
 -- A whole record: its code, its length and its data.
-use Rattle.std.proofs.Common.{ℕ, zero, suc, ◌/◌, ◌+◌, ◌-◌, ◌≤◌, ◌<◌, ◌≡◌, refl, ap, sym, ◌∙◌, [], ◌∷◌, true, false, ◌⊎◌, inl, inr, Option, Some, None, arith, length, take, drop, length-drop, length-append, one-add}
+use Rattle.std.proofs.Common.{ℕ, ◌+◌, ◌-◌, ◌≤◌, ◌<◌, ◌≡◌, refl, ap, sym, ◌∙◌, [], ◌∷◌, true, false, ◌⊎◌, inl, inr, Option, Some, None, arith, length, take, drop, length-drop, length-append, one-add}
 use mathlib.Core.Option as math
 use mathlib.Core.Option.{none, some}
 use lib.ListN.{drop_of_length-le}
 use borrow.Author.Tests.{le-leb, lt-leb}
 use Rattle.std.proofs.lemmas.List.{take_rest}
-use Rattle.action_format.specs.Bytes.{Bytes, word}
+use Rattle.action_format.specs.Bytes.{Bytes}
 use Rattle.action_format.specs.Readers.{P, bind, read_byte, read_bytes, word_reader, spent, read_inside}
 use Rattle.action_format.specs.Decode.{Record, in_record, read_record}
-use Rattle.action_format.proofs.Readers.{reads_byte, reads_word}
+use Rattle.action_format.proofs.Readers.{word_length, reads_byte, reads_word}
 use Rattle.record_reader.specs.declared.Content.{Content}
 use Rattle.record_reader.specs.declared.Head.{Head}
 use Rattle.record_reader.specs.declared.Kind.TheVariants as kind
@@ -18,11 +18,6 @@ use Rattle.record_reader.specs.Steps.{whole, content_of}
 use Rattle.record_reader.proofs.Tables.{long_record, short_record}
 
 -- what follows a number
-
-word_length : (k n : ℕ) → length (word k n) ≡ k
-unfolding word
-word_length zero n = refl
-word_length (suc k) n = rw (word_length k (n / 256))
 
 after_word : (k : ℕ) (d : Bytes) (n : ℕ) (r : Bytes) → word_reader k d ≡ some (n, r) → length d ≡ k + length r
 after_word k d n r e =

@@ -36,7 +36,8 @@ use Rattle.resolver.specs.Passes.{walked_at, number_at, sizes_at, near_list, nea
 use Rattle.resolver.specs.Resolved.{place_at, Tables, Resolves, refused, good}
 use Rattle.resolver.proofs.Whole.{split, lists_count, walked_list}
 use Rattle.resolver.proofs.Stand.{list_by_place}
-use Rattle.resolver.proofs.Sizing.{actions_reverse, actions_append, reverse_more, body_sizes, lists, rules, body_of, sizes_at_lem, sized}
+use Rattle.action_format.proofs.ByPlace.{actions_append, actions_reverse}
+use Rattle.resolver.proofs.Sizing.{reverse_more, body_sizes, lists, rules, body_of, sizes_at_lem, sized}
 
 -- tests over a row
 

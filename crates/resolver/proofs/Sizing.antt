@@ -7,7 +7,7 @@ use mathlib.Core.Option.{some}
 use native.Mathlib.Omega.{arith}
 use native.Mathlib.Nat.{zero-add}
 use lib.Dec.{eqb}
-use lib.ListN.{length, get_or, get_elem?, length-append, length-map}
+use lib.ListN.{length, get_or, get_elem?, length-map}
 use lib.Seq.{take_all}
 use borrow.Author.Tests.{eqb-true, eqb-false}
 use Rattle.pcode.specs.Pcode.{Header, Branching, Jump, If, Action, Item, plain, push, branch, define, action, mark, Value}
@@ -24,7 +24,7 @@ use Rattle.action_format.specs.Bytes.{word, single_bytes, header_bytes, code_byt
 use Rattle.action_format.specs.Offsets.{sizes, sum, position}
 use Rattle.action_format.specs.ByList.{list_of, body, body_bytes}
 use Rattle.action_format.proofs.Tests.{All}
-use Rattle.action_format.proofs.ByPlace.{marked_once, place_inside}
+use Rattle.action_format.proofs.ByPlace.{actions_append, actions_reverse, marked_append, marked_once, place_inside}
 use Rattle.action_format.proofs.Offsets.{same_length}
 use Rattle.action_format.proofs.Finished.{same_depth, finished, Named}
 use Rattle.action_format.proofs.Landing.{inner, are_named, same_body, end_begins}
@@ -46,11 +46,6 @@ use Rattle.resolver.proofs.Whole.{split, lists_count, walked_list, walked_back}
 use Rattle.resolver.proofs.Stand.{list_by_place, made, standing_at}
 
 -- items in order
-
-pub actions_append : (xs ys : List Item) → actions (xs ++ ys) ≡ actions xs ++ actions ys
-actions_append [] ys = refl
-actions_append (action a ∷ xs) ys = ap (λ (l : List Action). a ∷ l) (actions_append xs ys)
-actions_append (mark m ∷ xs) ys = actions_append xs ys
 
 pub reverse_more : (x : Item) (xs : List Item) → reverse (x ∷ xs) ≡ reverse xs ++ (x ∷ [])
 reverse_more x xs = reverse-append (x ∷ []) xs
@@ -125,25 +120,6 @@ module _ (B C : ℕ → ℕ) (m : ℕ) (same : (k : ℕ) → 1 ≤ k → k ≤ m
       (rw (x.0, y.0), rw (x.1, y.1))
 
 -- marks
-
-marked_append : (n l : ℕ) (xs ys : List Item) → marked n l (xs ++ ys) ≡ marked n l xs ++ marked (n + length (actions xs)) l ys
-marked_append n l [] ys = ap (λ (k : ℕ). marked k l ys) (omega arith)
-marked_append n l (action a ∷ xs) ys = marked_append (suc n) l xs ys ∙ ap (λ (k : ℕ). marked (suc n) l xs ++ marked k l ys) (omega arith)
-marked_append n l (mark m ∷ xs) ys = go (eqb m l) (marked_append n l xs ys)
-  where
-    go : (t : Bool) → marked n l (xs ++ ys) ≡ marked n l xs ++ marked (n + length (actions xs)) l ys →
-        elim t as (λ _. List ℕ) [ true ↦ n ∷ marked n l (xs ++ ys) | false ↦ marked n l (xs ++ ys) ]
-        ≡ elim t as (λ _. List ℕ) [ true ↦ n ∷ marked n l xs | false ↦ marked n l xs ] ++ marked (n + length (actions xs)) l ys
-    go true e = ap (λ (r : List ℕ). n ∷ r) e
-    go false e = e
-
-pub actions_reverse : (is : List Item) → length (actions (reverse is)) ≡ length (actions is)
-actions_reverse [] = refl
-actions_reverse (action a ∷ is) =
-    ap (λ (l : List Item). length (actions l)) (reverse_more (action a) is) ∙ ap length (actions_append (reverse is) (action a ∷ []))
-    ∙ length-append (actions (reverse is)) (a ∷ []) ∙ omega (arith, actions_reverse is)
-actions_reverse (mark l ∷ is) =
-    ap (λ (k : List Item). length (actions k)) (reverse_more (mark l) is) ∙ ap length (actions_append (reverse is) (mark l ∷ []) ∙ append-nil (actions (reverse is))) ∙ actions_reverse is
 
 spots_are : (l : ℕ) (is : List Item) → marked 0 l (reverse is) ≡ reverse (spots l is)
 unfolding spots

@@ -15,6 +15,7 @@ use Rattle.list_slice.specs.Entry.{Entry, Piece, entries_of, piece_of}
 use Rattle.list_slice.specs.Words.{area, joined, ends_from, run, cut, keep, trimmed, ends_in, entries_in}
 use Rattle.list_slice.specs.Items.{gathered, items_of}
 use Rattle.list_slice.specs.Compiled.{finishing, numbered, label_words, lists_in}
+use Rattle.list_slice.proofs.Laid.{length_cut}
 use Rattle.list_slice.proofs.Areas.{ends_in_lem}
 use Rattle.list_slice.proofs.Parse.{recovered}
 use Rattle.list_slice.proofs.Determined.{numbered_finishing, read_back}
@@ -42,11 +43,6 @@ ends_up p (xs ∷ ls) zero h = (omega arith, omega (arith, length-append xs (joi
 ends_up p (xs ∷ ls) (suc j) h =
     let r = ends_up (p + length xs) ls j (omega arith) in
     (subst (λ (n : ℕ). n ≤ get_or (ends_from (p + length xs) ls) j 0) (sym (shifted (p + length xs) (ends_from (p + length xs) ls) j)) r.0, omega (arith, r.1, length-append xs (joined ls)))
-
-cut_length : (w : List ℕ) (p : ℕ) (es : List ℕ) → length (cut w p es) ≡ length es
-unfolding cut
-cut_length w p [] = refl
-cut_length w p (e ∷ es) = ap suc (cut_length w e es)
 
 cut_at : (w : List ℕ) (p : ℕ) (es : List ℕ) (j : ℕ) → j < length es → get_or (cut w p es) j [] ≡ run w (from_at p es j) (get_or es j 0 - from_at p es j)
 unfolding cut
@@ -99,7 +95,7 @@ module _ {F w : List ℕ} (h : Lowered F w) where
 
   count_is : count_of w ≡ length es
   unfolding count_of entries_in
-  count_is = sym (cut_length w 0 (trimmed (ends_in limits01 w))) ∙ ap length entries_are
+  count_is = sym (length_cut w 0 (trimmed (ends_in limits01 w))) ∙ ap length entries_are
 
   pub few_lists : count_of w ≤ 1024
   few_lists = omega (arith, count_is, h.holds.fits.lists_fit)

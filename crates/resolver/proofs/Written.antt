@@ -19,7 +19,8 @@ use Rattle.resolver.specs.Walk.{count_of, walked_bytes}
 use Rattle.resolver.specs.Passes.{walked_at, number_at}
 use Rattle.resolver.proofs.Whole.{walked_list}
 use Rattle.resolver.proofs.Stand.{list_by_place}
-use Rattle.resolver.proofs.Sizing.{actions_append, actions_reverse, reverse_more, lists, rules}
+use Rattle.action_format.proofs.ByPlace.{actions_append, actions_reverse}
+use Rattle.resolver.proofs.Sizing.{reverse_more, lists, rules}
 
 bytes_last : (l : Lists) (k i : ℕ) (xs : List Action) (a : Action) → actions_bytes l k i (xs ++ (a ∷ [])) ≡ actions_bytes l k i xs ++ action_bytes_at l k (i + length xs) a
 bytes_last l k i [] a = let z : i ≡ i + 0 = omega arith in append-nil (action_bytes_at l k i a) ∙ ap (λ (n : ℕ). action_bytes_at l k n a) z

@@ -1,5 +1,6 @@
 use Rattle.std.proofs.Common.{◌≡◌, arith}
-use Rattle.byte_writer.proofs.Loops.{word_length, number_next, number_done}
+use Rattle.action_format.proofs.Readers.{word_length}
+use Rattle.byte_writer.proofs.Loops.{number_next, number_done}
 use Rattle.byte_writer.proofs.Writer.word.Goals as goal
 
 pub bounds-self-at : goal.bounds-self-at
