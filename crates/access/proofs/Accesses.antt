@@ -1,6 +1,7 @@
 -- The ways through the functions of this crate.
 use Prim.Native.Nat.{ℕ, ◌+◌, ◌≤◌}
-use mathlib.Core.Path.{◌≡◌}
+use mathlib.Core.Path.{◌≡◌, refl}
+use mathlib.Core.Logic.{◌⊎◌, inl, inr}
 use mathlib.Core.Bool.{Bool, true, false}
 use mathlib.Core.List.{List, []}
 use Rattle.std.specs.Prelude.{None, Some}
@@ -14,15 +15,18 @@ use Rattle.hir.specs.declared.ConstantKind.TheVariants as constant
 use Rattle.special_properties.specs.SpecialProperties.{same_bytes, null, undefined, get_special_property}
 use Rattle.script_records.specs.Layout.{layout_of, string_at}
 use Rattle.script.specs.Resolve.{constant_over}
-use Rattle.lowering.specs.Builder.{◌>>◌, action, plain_action, push, push_string}
-use Rattle.lowering.specs.Access.{Access, Variable, Direct, SpecialProperty, for_name, for_identifier, for_constant, store_register}
+use Rattle.lowering.specs.Builder.{Step, ◌>>◌, plain_action, push, push_string}
+use Rattle.lowering.specs.Access.{Access, Variable, Direct, SpecialProperty, for_name, for_identifier, for_constant, set_value, get_and_set_value, store_register}
 use Rattle.list_slice.specs.File.{text_in, names_string}
 use Rattle.codegen_state.specs.declared.BuilderState.{BuilderState}
 use Rattle.codegen_state.specs.View.{value_in}
 use Rattle.codegen_state.specs.Does.{Does}
+use Rattle.builder.specs.declared.builder.CodeBuilder.{CodeBuilder}
+use Rattle.builder.specs.Runs.{Runs}
 use Rattle.tree.specs.Within.{constant_named}
-use Rattle.access.specs.Accesses.{pushed_direct, set_and_push, call_register}
-use Rattle.access.proofs.Chains.{row, leaves}
+use Rattle.access.specs.Accesses.{access_of, pushed_direct, call_register}
+use Rattle.access.specs.declared.Access as code
+use Rattle.access.proofs.Chains.{row, leaves, runs_row}
 use Rattle.access.proofs.Texts.{text_is, no_text_lem}
 
 module _ (F : List ℕ) {b r : BuilderState} {w w' : List ℕ} where
@@ -59,10 +63,17 @@ module _ (F : List ℕ) {b r : BuilderState} {w w' : List ℕ} where
   boolean {x = true} e d = rw e d
   boolean {x = false} e d = rw e d
 
-  pub sets : {b1 b2 : BuilderState} {w1 w2 : List ℕ} (o : Op) → Does F (store_register 0) b w tt b1 w1 → Does F (action o) b1 w1 tt b2 w2 → Does F (push (Value.Register 0)) b2 w2 tt r w' →
-      Does F (set_and_push o) b w tt r w'
-  sets o d e k = row (store_register 0 >> action o) (push (Value.Register 0)) (row (store_register 0) (action o) d e) k
-
   pub calls : {b1 b2 : BuilderState} {w1 w2 : List ℕ} (o : Op) (n s : ℕ) → Does F (push (Value.Register s)) b w tt b1 w1 → Does F (push Undefined) b1 w1 tt b2 w2 →
       Does F (plain_action (op o) (Delta.down (n + 2))) b2 w2 tt r w' → Does F (call_register o n s) b w tt r w'
   calls o n s d e k = row (push (Value.Register s) >> push Undefined) (plain_action (op o) (Delta.down (n + 2))) (row (push (Value.Register s)) (push Undefined) d e) k
+
+-- what is set through register 0 is set, and left
+pub through_0 : {a : code.Access} → (a ≡ code.TheVariants.Variable) ⊎ ((a ≡ code.TheVariants.Object) ⊎ (a ≡ code.TheVariants.SpecialProperty)) →
+    get_and_set_value (access_of a) ≡ (store_register 0 >> set_value (access_of a) >> push (Value.Register 0))
+through_0 (inl e) = rw e refl
+through_0 (inr (inl e)) = rw e refl
+through_0 (inr (inr e)) = rw e refl
+
+pub sets : {F : List ℕ} {b c d r : CodeBuilder} (s : Step) → Runs F (store_register 0) b tt c → Runs F s c tt d → Runs F (push (Value.Register 0)) d tt r →
+    Runs F (store_register 0 >> s >> push (Value.Register 0)) b tt r
+sets s x y z = runs_row (store_register 0 >> s) (push (Value.Register 0)) (runs_row (store_register 0) s x y) z

@@ -2,7 +2,7 @@
 use Rattle.std.specs.Prelude.{ℕ, ◌+◌}
 use Rattle.pcode.specs.declared.Op.{Op}
 use Rattle.pcode.specs.Pcode.{Value, Delta, op, Undefined}
-use Rattle.lowering.specs.Builder.{M, Step, ◌>>◌, action, plain_action, push}
+use Rattle.lowering.specs.Builder.{M, Step, ◌>>◌, plain_action, push}
 use Rattle.lowering.specs.Access as access
 use Rattle.lowering.specs.Access.{◌gives◌, store_register}
 use Rattle.access.specs.declared.Access.{Access}
@@ -18,10 +18,6 @@ access_of (Register r) = access.Register r
 -- a value that is pushed is direct
 abbrev pub pushed_direct : Value → M access.Access
 pushed_direct v = push v gives access.Direct
-
--- the value goes through register 0, and is left on the stack
-abbrev pub set_and_push : Op → Step
-set_and_push o = store_register 0 >> action o >> push (Value.Register 0)
 
 -- a register holds the object itself: it is called without a name
 abbrev pub call_register : Op → (n register : ℕ) → Step

@@ -11,7 +11,7 @@ ghost use Rattle.codegen_state.specs.View.{named, value_in};
 ghost use Rattle.tree.specs.Within.{constant_named};
 ghost use Rattle.builder.specs.Runs.{Runs};
 ghost use Rattle.constants.specs.Acts.{Acts};
-ghost use Rattle.access.specs.Accesses.{access_of, pushed_direct, set_and_push, call_register};
+ghost use Rattle.access.specs.Accesses.{access_of, pushed_direct, call_register};
 
 use builder::builder::CodeBuilder;
 use codegen_state::Stop;
@@ -21,6 +21,7 @@ use pcode::{Op, PushValue};
 use slice_words::NO_STRING;
 use special_properties::{get_special_property, is_null, is_undefined};
 
+// How a value is reached. One call answers with it and a later one takes the step, which is why it is no closure: none may be handed out.
 #[derive(Clone, Copy)]
 pub enum Access {
     Variable,
@@ -63,6 +64,7 @@ impl Access {
         }
     }
 
+    // The leaves, which want the value alone, read a constant without the way through an access.
     pub fn for_constant(context: &mut ScriptContext, c: ConstantKind) -> Access
         ensures { let F = context.old.script.bytes.now in length F ≤ 1048576 → T (constant_named F c) →
             Acts (for_constant (constant_over (string_at F (layout_of F)) c)) context.old (access_of result) context.new }
@@ -80,6 +82,7 @@ impl Access {
         }
     }
 
+    // The steps take the builder and, in a call, the number of arguments: those are what each of them is told, and nothing that is kept together.
     pub fn get_value(self, builder: &mut CodeBuilder)
         ensures { (F : List ℕ) → Runs F (get_value (access_of self)) builder.old tt builder.new }
     {
@@ -111,10 +114,13 @@ impl Access {
         ensures { (F : List ℕ) → Runs F (get_and_set_value (access_of self)) builder.old tt builder.new }
     {
         match self {
-            Access::Variable => set_and_push(builder, Op::SetVariable),
-            Access::Object => set_and_push(builder, Op::SetMember),
+            // What `set_value` does stands there alone: around it the value goes through register 0, and is left on the stack.
+            Access::Variable | Access::Object | Access::SpecialProperty => {
+                builder.store_register(0);
+                self.set_value(builder);
+                builder.push(PushValue::Register(0));
+            }
             Access::Direct => builder.refuse(Stop::NotAssignable),
-            Access::SpecialProperty => set_and_push(builder, Op::SetProperty),
             Access::Register(r) => builder.store_register(r),
         }
     }
@@ -130,6 +136,8 @@ impl Access {
         }
     }
 
+    // A construction and a call have other actions, and a direct value goes with an object in the one and with a variable in the other. That the number of
+    // arguments has 16 bits keeps the sums below from wrapping.
     pub fn call_new(self, builder: &mut CodeBuilder, n: u32)
         requires { n < 65536 }
         ensures { (F : List ℕ) → Runs F (call_new n (access_of self)) builder.old tt builder.new }
@@ -162,15 +170,6 @@ fn direct(context: &mut ScriptContext, v: PushValue) -> Access
 {
     context.builder.push(v);
     Access::Direct
-}
-
-// The value goes through register 0, and is left on the stack.
-fn set_and_push(builder: &mut CodeBuilder, o: Op)
-    ensures { (F : List ℕ) → Runs F (set_and_push o) builder.old tt builder.new }
-{
-    builder.store_register(0);
-    builder.action(o);
-    builder.push(PushValue::Register(0));
 }
 
 // A register holds the object itself: it is called without a name.

@@ -2,9 +2,10 @@
 use Prim.Native.Nat.{ℕ}
 use mathlib.Core.Path.{◌≡◌, refl}
 use mathlib.Core.List.{List}
-use mathlib.Core.Bool.{Bool, true, false, ◌&&◌}
+use mathlib.Core.Bool.{Bool, true, false}
 use lib.Dec.{T}
 use mir.Val.{bool_byte}
+use Rattle.std.proofs.Math.Bool.{and-true}
 use Rattle.pcode.specs.declared.Op.{Op}
 use Rattle.pcode.specs.Pcode.{Plain, Branching, Action, row_of}
 use Rattle.list_slice.specs.Entry.{Piece, bit, branch_code}
@@ -28,12 +29,8 @@ module _ (F : List ℕ) where
   pub frame2_says : (play : Bool) {x : ℕ} → x ≡ bool_byte play → Says F 0x9F x (Action.plain (Plain.GotoFrame2 play))
   frame2_says play e = rw (e, bit_byte play) (record { piece = Piece.GotoFrame2 play; entry_is = refl; adds = λ is. refl; is_good = tt })
 
-  pub and_true : (t : Bool) → T t → T (t && true)
-  and_true true h = tt
-  and_true false h = h
-
   pub label_says : (s : ℕ) → T (names_string F s) → Says F 0x8C s (Action.plain (Plain.GotoLabel (text_in F s)))
-  label_says s h = record { piece = Piece.GotoLabel s; entry_is = refl; adds = λ is. refl; is_good = and_true (names_string F s) h }
+  label_says s h = record { piece = Piece.GotoLabel s; entry_is = refl; adds = λ is. refl; is_good = rw (and-true (names_string F s)) h }
 
   pub branch_says : (k : Branching) (l : ℕ) → Says F (branch_code k) l (Action.branch k l)
   branch_says k l = record { piece = Piece.branch k l; entry_is = refl; adds = λ is. refl; is_good = tt }

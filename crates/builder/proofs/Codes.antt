@@ -6,6 +6,7 @@ use mathlib.Core.Bool.{Bool, true, false, cond, ◌&&◌, true≢false}
 use native.Mathlib.Omega.{arith}
 use lib.Dec.{leb, eqb}
 use borrow.Author.Tests.{eqb-true, leb-true, lt-leb, le-leb}
+use Rattle.std.proofs.lemmas.Bool.{and_parts}
 use Rattle.pcode.specs.declared.Op.{Op}
 use Rattle.pcode.specs.Pcode.{Jump, If, row_of}
 use Rattle.list_slice.specs.Entry.{Pushed, Piece, Null, Undefined, Boolean, String, Register, Float, Integer, Constant, op, ConstantPool, StoreRegister, GotoFrame, GotoLabel, GotoFrame2, branch, function, mark, value, value_entry, entry_of, by_code, find, piece_of}
@@ -44,14 +45,6 @@ small_ops : List (ℕ × Piece) → Bool
 small_ops [] = true
 small_ops (x ∷ t) = small (is_op x.1) x.0 && small_ops t
 
-and_left : (x y : Bool) → x && y ≡ true → x ≡ true
-and_left true y h = refl
-and_left false y h = h
-
-and_right : (x y : Bool) → x && y ≡ true → y ≡ true
-and_right true y h = h
-and_right false y h = absurd (true≢false (sym h))
-
 small_op : (b : Bool) (k : ℕ) → small b k ≡ true → b ≡ true → k < 0x110
 small_op true k h e = omega (arith, leb-true k 0x10F h)
 small_op false k h e = absurd (true≢false (sym e))
@@ -59,10 +52,10 @@ small_op false k h e = absurd (true≢false (sym e))
 found_op : (c a : ℕ) (t : List (ℕ × Piece)) → small_ops t ≡ true → is_op (find c a t) ≡ true → c < 0x110
 unfolding small_ops
 found_op c a [] h e = absurd (true≢false (sym e))
-found_op c a (x ∷ t) h e = go (eqb c x.0) refl e (found_op c a t (and_right (small (is_op x.1) x.0) (small_ops t) h))
+found_op c a (x ∷ t) h e = go (eqb c x.0) refl e (found_op c a t (and_parts (small (is_op x.1) x.0) (small_ops t) h).1)
   where
     go : (b : Bool) → eqb c x.0 ≡ b → is_op (cond b x.1 (find c a t)) ≡ true → (is_op (find c a t) ≡ true → c < 0x110) → c < 0x110
-    go true q r k = omega (arith, eqb-true c x.0 q, small_op (is_op x.1) x.0 (and_left (small (is_op x.1) x.0) (small_ops t) h) r)
+    go true q r k = omega (arith, eqb-true c x.0 q, small_op (is_op x.1) x.0 (and_parts (small (is_op x.1) x.0) (small_ops t) h).0 r)
     go false q r k = k r
 
 pub op_code : (o : Op) → (row_of o).code < 0x110

@@ -3,11 +3,12 @@ use Prim.Native.Nat.{ℕ, zero, suc, ◌+◌, ◌-◌, ◌≤◌, ◌<◌}
 use mathlib.Core.Path.{◌≡◌, refl, ap, ◌∙◌}
 use mathlib.Core.Logic.{◌≢◌}
 use mathlib.Core.List.{List, [], ◌∷◌, ◌++◌, map}
-use mathlib.Core.Bool.{Bool, true, false, ◌&&◌}
+use mathlib.Core.Bool.{Bool, true, false}
 use native.Mathlib.Omega.{arith}
 use lib.Dec.{T, eqb, ltb}
 use lib.ListN.{length, get_or, drop, length-take, length-drop, length-map}
 use borrow.Author.Tests.{lt-ltb, le-ltb, eqb-true, eqb-false, ltb-true, ltb-false}
+use Rattle.std.proofs.Math.Bool.{and-true}
 use Rattle.std.specs.Prelude.{IsSome, IsNone}
 use Rattle.pcode.specs.Pcode.{Header, Action, Item, moved}
 use Rattle.lowering.specs.Builder.{State, refuse, define_delta, defined}
@@ -55,10 +56,6 @@ run_moved w w' i j (suc n) h = rw (here, run_moved w w' (suc i) (suc j) n there)
 pub run_cons : (w : List ℕ) (i n : ℕ) → run w i (suc n) ≡ entry_at w i ∷ run w (suc i) n
 unfolding run
 run_cons w i n = refl
-
-and_true : (x : Bool) → T x → T (x && true)
-and_true true h = h
-and_true false h = h
 
 pub run_snoc : (w : List ℕ) (i n : ℕ) → run w i (suc n) ≡ run w i n ++ (entry_at w (i + n) ∷ [])
 unfolding run
@@ -249,7 +246,7 @@ module _ (w0 : List ℕ) (b : BuilderState) (w : List ℕ) (low base size number
     }
       where
         own : T (good F (piece_of (entry 256 (b.lists + 1) number)))
-        own = rw (piece_back (piece.function (b.lists + 1) number)) (and_true (names_function F number) known)
+        own = rw (piece_back (piece.function (b.lists + 1) number), and-true (names_function F number)) known
 
     pub ended_done : IsNone b.refused → Ends F (header_in F number) b w0 base size (ended b base size up low) ended_words
     ended_done h = record {

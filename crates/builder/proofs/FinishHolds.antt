@@ -6,8 +6,9 @@ use mathlib.Core.List.{List, [], ◌∷◌, ◌++◌, map, reverse}
 use mathlib.Core.Bool.{Bool, true, false}
 use native.Mathlib.Omega.{arith}
 use lib.Dec.{T, eqb, ltb}
-use lib.ListN.{length, get_or, set, take, drop, length-take, length-drop, length-append, length-set, get_or-replicate}
+use lib.ListN.{length, get_or, set, take, drop, replicate, length-take, length-drop, length-append, length-set, get_or-replicate, get_or-eq_default}
 use lib.Seq.{take-length, get_or-set_same, get_or-set_other, get_or-drop, get_or-take, ext_get_or}
+use borrow.Rule.Slice.PartMut.{put_mid}
 use borrow.Author.Tests.{eqb-true, eqb-false, ltb-true, ltb-false}
 use Rattle.pcode.specs.Pcode.{Plain, Item}
 use Rattle.lowering.specs.Builder.{limits01}
@@ -36,7 +37,8 @@ use Rattle.builder.proofs.Leaves.{cut_same}
 use Rattle.builder.proofs.Words.{getD_put, entry_same, entry_other, entry_side}
 use Rattle.builder.proofs.Move.{same_inside, side_word, part_more}
 use Rattle.builder.proofs.Ended.{rising_snoc, cut_snoc, run_moved, run_snoc}
-use Rattle.builder.proofs.FinishWords.{same_entries, located_append}
+use Rattle.builder.proofs.Filled.{fills}
+use Rattle.builder.proofs.FinishWords.{cleared, same_entries, located_append}
 use Rattle.builder.proofs.FinishReads.{cut_written, no_counts, all_named, run_reads, joined_map, cut_reads, pool_first, all_both, all_taken}
 
 -- a table of words, and zeros after it
@@ -55,18 +57,12 @@ table w a n ws l h =
     ext_get_or 0 (take n (drop a w)) (area n ws) (long ∙ sym (length_area n ws))
     (λ j k. let o : j < n = omega arith in rw (get_or-take n (drop a w) j 0 o, get_or-drop a w j 0, area_at n ws j o) (h j o))
 
-past_end : (k : ℕ) (xs : List ℕ) (j : ℕ) → k ≤ j → get_or (take k xs) j 0 ≡ 0
-past_end zero xs j h = refl
-past_end (suc k) [] j h = refl
-past_end (suc k) (x ∷ xs) zero h = absurd (omega arith)
-past_end (suc k) (x ∷ xs) (suc j) h = past_end k xs j (omega arith)
-
 part_table : (w : List ℕ) (a k n : ℕ) → a + n ≤ length w → ((j : ℕ) → k ≤ j → j < n → get_or w (a + j) 0 ≡ 0) → take n (drop a w) ≡ area n (take k (drop a w))
 part_table w a k n l h = table w a n (take k (drop a w)) l (λ j o. at j o (ltb j k) refl)
   where
     at : (j : ℕ) → j < n → (c : Bool) → ltb j k ≡ c → get_or w (a + j) 0 ≡ get_or (take k (drop a w)) j 0
     at j o true z = let q = ltb-true j k z in rw (get_or-take k (drop a w) j 0 q, get_or-drop a w j 0)
-    at j o false z = let q = ltb-false j k z in h j q o ∙ sym (past_end k (drop a w) j q)
+    at j o false z = let q = ltb-false j k z in h j q o ∙ sym (get_or-eq_default (take k (drop a w)) 0 {n = j} (simp length-take (omega arith)))
 
 zeros_from : (w : List ℕ) (a : ℕ) → a ≤ length w → ((j : ℕ) → a ≤ j → get_or w j 0 ≡ 0) → drop a w ≡ zeros_of (length w - a)
 unfolding zeros_of
@@ -298,6 +294,10 @@ copied_entry k j h = rw (k.same (j * 3) (omega arith), k.same (j * 3 + 1) (omega
 first_action : (a c : Plain) (is : List Item) (ls : List (List Item)) (l : ℕ) → label_word ((plain a ∷ is) ∷ ls) l ≡ label_word ((plain c ∷ is) ∷ ls) l
 unfolding label_word
 first_action a c is ls l = refl
+
+pub labels_cleared : {w0 : List ℕ} {b : BuilderState} {low : ℕ} {w1 ys : List ℕ} → Fine b w0 → Moved w0 b.low b.top low 4096 w1 →
+    ys ≡ replicate (length (take 1024 (drop 12288 (set w1 (13312 + b.lists) low)))) 0 → Cleared (set w1 (13312 + b.lists) low) (put_mid 12288 1024 (set w1 (13312 + b.lists) low) ys)
+labels_cleared {b = b} {low} {w1} f m e = cleared (fills (set w1 (13312 + b.lists) low) 12288 1024 (omega (arith, length-set w1 (13312 + b.lists) low, m.long, f.long)) e)
 
 module _ (w0 : List ℕ) (b : BuilderState) (f : Fine b w0) (bottom : b.base ≡ 4096) {low : ℕ} {w1 : List ℕ} (m : Moved w0 b.low b.top low 4096 w1)
     {w2 : List ℕ} (c : Cleared (set w1 (13312 + b.lists) low) w2) where

@@ -100,9 +100,6 @@ unfolding gathered
 gathered_pool r [] n = refl
 gathered_pool r (p ∷ ps) n = rw (gathered_pool r ps n) (under r p (Plain.ConstantPool (r.strings n)) (gathered r ps))
 
-pub reverse_last : {A : Type 0} (xs : List A) (y : A) → reverse (xs ++ (y ∷ [])) ≡ y ∷ reverse xs
-reverse_last xs y = reverse-append xs (y ∷ [])
-
 pub joined_map : {A B : Type 0} (f : A → B) (ls : List (List A)) → joined (map (map f) ls) ≡ map f (joined ls)
 unfolding joined
 joined_map f [] = refl
@@ -123,7 +120,7 @@ pub pool_first : (F pool : List ℕ) (es : List Entry) (n : ℕ) →
 unfolding items_of
 pool_first F pool es n =
     rw (map_append piece_of es (entry 0x88 n 0 ∷ []), piece_back (ConstantPool n), gathered_pool (in_file F pool) (map piece_of es) n)
-    (reverse_last (gathered (in_file F pool) (map piece_of es)) (plain (Plain.ConstantPool (map (text_in F) (take n pool)))))
+    (reverse-append (gathered (in_file F pool) (map piece_of es)) (plain (Plain.ConstantPool (map (text_in F) (take n pool))) ∷ []))
 
 pub all_both : {A : Type 0} (f : A → Bool) (xs ys : List A) → T (all f xs) → T (all f ys) → T (all f (xs ++ ys))
 all_both f [] ys h k = k

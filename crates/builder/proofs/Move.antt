@@ -131,5 +131,6 @@ same_inside w w' a n l l' h =
     ext_get_or 0 (take n (drop a w')) (take n (drop a w)) (long' ∙ sym long)
     (λ j k. let o : j < n = omega arith in rw (get_or-take n (drop a w') j 0 o, get_or-take n (drop a w) j 0 o, get_or-drop a w' j 0, get_or-drop a w j 0) (h j o))
 
+-- the library's take-suc, for a part that begins at a: the ends and the pool grow so
 pub part_more : (w : List ℕ) (a n : ℕ) → a + n < length w → take (n + 1) (drop a w) ≡ take n (drop a w) ++ (get_or w (a + n) 0 ∷ [])
 part_more w a n h = rw (add-one, take-suc (drop a w) n 0 (simp length-drop (omega arith)), get_or-drop a w n 0)

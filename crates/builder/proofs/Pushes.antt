@@ -7,6 +7,7 @@ use native.Mathlib.Omega.{arith}
 use lib.Dec.{T, leb}
 use lib.ListN.{get_or}
 use borrow.Author.Tests.{lt-ltb, le-ltb, le-leb, leb-true, leb-false}
+use Rattle.std.proofs.Math.Bool.{and-true}
 use Rattle.std.specs.Prelude.{IsNone}
 use Rattle.pcode.specs.Pcode.{Value, Action, Item}
 use Rattle.pcode.specs.declared.PushValue.{PushValue}
@@ -27,7 +28,6 @@ use Rattle.builder.specs.Entries.{Grown}
 use Rattle.builder.specs.Values.{IsValue}
 use Rattle.builder.proofs.Codes.{is_value, value_from, value_to, value_code}
 use Rattle.builder.proofs.Leaves.{refused_with, refuses, room_value, gather_more, grown_held, grown_fine, grown_named, wrote_piece}
-use Rattle.builder.proofs.Actions.{and_true}
 
 -- the last item is a Push if the last piece is a value
 
@@ -163,7 +163,7 @@ module _ {v : PushValue} {b r : BuilderState} {w w' : List ℕ} {x : Entry} (f :
         rw (g.new, g.words) (record {
           same = rw (grown_held F p f room wr 0 1 0 (b.size + 1) h, held_holds F (tt {0}) b w h, lt-ltb b.values 2048 k, ← j F, e, (later_joins (value_in F v) (gather F (open_of b w)) full).0);
           fine = rw (g.new, g.words) at joins_fine;
-          named = grown_named F p f room wr 0 1 0 (b.size + 1) (and_true F (named F v) good);
+          named = grown_named F p f room wr 0 1 0 (b.size + 1) (rw (and-true (named F v)) good);
         })
 
   module _ (e : t ≡ false) (n : b.actions < 1024) (g : Grown b w x.code x.first x.second 1 1 0 (b.size + 1) r w') where
@@ -191,5 +191,5 @@ module _ {v : PushValue} {b r : BuilderState} {w w' : List ℕ} {x : Entry} (f :
             begins_push (value_in F v) (gather F (open_of b w)) (sym (j F) ∙ e),
           );
           fine = rw (g.new, g.words) at begins_fine;
-          named = grown_named F p f room wr 1 1 0 (b.size + 1) (and_true F (named F v) good);
+          named = grown_named F p f room wr 1 1 0 (b.size + 1) (rw (and-true (named F v)) good);
         })

@@ -1,5 +1,5 @@
 -- The entry of a value to be pushed.
-use Rattle.std.specs.Prelude.{ℕ, ◌+◌, ◌≤◌, ◌≡◌}
+use Rattle.std.specs.Prelude.{◌+◌, ◌≤◌, ◌≡◌}
 use Rattle.pcode.specs.declared.PushValue.{PushValue}
 use Rattle.list_slice.specs.Entry.{entry, value_entry}
 use Rattle.slice_words.specs.declared.Entry.{Entry}

@@ -2,9 +2,9 @@
 ghost use Rattle.codegen_state.specs.Does.{Fine, Fine-prop};
 
 use crate::entries::{grow, grow_marked, value_entry};
-use codegen_state::{BuilderState, LABELS, MAX_ACTIONS, MAX_VALUES, Stop};
+use codegen_state::{BuilderState, Stop};
 use pcode::{Label, Op, PushValue, row_of};
-use slice_words::code;
+use slice_words::{Entry, LABELS_AT, MAX_ACTIONS, MAX_VALUES, code, entry_at};
 
 // The lists under construction, in the lent words of the list slice and the pool's index.
 #[derive(Drop)]
@@ -36,7 +36,8 @@ impl CodeBuilder<'_> {
         }
     }
 
-    // An action of a code and its first word, after which the stack has this size.
+    // An action of a code and its first word, after which the stack has this size. The two are words of the slice, which programs in other languages read as
+    // numbers. Here and below `Keeps` holds whatever the words are, and `Runs` where they say something.
     fn emit(&mut self, code: u32, first: u32, size: u32)
         requires entry { Emits code first }
         requires size_bound { size ≤ self.old.state.size + 1 }
@@ -53,7 +54,12 @@ impl CodeBuilder<'_> {
         }
         let list = &mut *self.list;
         let state = &mut self.state;
-        grow(list, state, code, first, 0, 1, 0, 0, size);
+        let entry = Entry {
+            code,
+            first,
+            second: 0,
+        };
+        grow(list, state, entry, 1, 0, 0, size);
     }
 
     pub fn action(&mut self, o: Op)
@@ -64,7 +70,7 @@ impl CodeBuilder<'_> {
         self.emit(row.code, 0, size);
     }
 
-    // An action whose caller says by how much the stack falls.
+    // An action whose caller says by how much the stack falls, which its row does not know.
     pub fn action_down(&mut self, o: Op, down: u32)
         ensures { (F : List ℕ) → Runs F (plain_action (op o) (Delta.down down)) self.old tt self.new }
     {
@@ -72,6 +78,8 @@ impl CodeBuilder<'_> {
         self.emit(row_of(o).code, 0, size);
     }
 
+    // From here on each action with a word is a step of its own: its code, its word and its size are all that `emit` takes, so that one function for them would be
+    // `emit` again.
     pub fn store_register(&mut self, register: u8)
         ensures { (F : List ℕ) → Runs F (access.store_register register) self.old tt self.new }
     {
@@ -100,6 +108,7 @@ impl CodeBuilder<'_> {
         self.emit(code::GOTO_LABEL, string, self.state.size);
     }
 
+    // A jump, a branch and a mark take their label and nothing that travels with it.
     pub fn jump(&mut self, label: Label)
         ensures { (F : List ℕ) → Runs F (statement.jump label.0) self.old tt self.new }
     {
@@ -118,7 +127,7 @@ impl CodeBuilder<'_> {
         ensures { (F : List ℕ) → result ≡ ends_in_push (gather F (open_of self.now.state self.now.list.now)) }
     {
         let top = self.state.top;
-        top < self.state.base && code::FIRST_VALUE <= self.list[top * 3]
+        top < self.state.base && code::FIRST_VALUE <= entry_at(self.list, top).code
     }
 
     pub fn push(&mut self, v: PushValue)
@@ -137,17 +146,11 @@ impl CodeBuilder<'_> {
         if self.joins() {
             let list = &mut *self.list;
             let state = &mut self.state;
-            grow(
-                list,
-                state,
-                x.code + (code::LATER_VALUE - code::FIRST_VALUE),
-                x.first,
-                x.second,
-                0,
-                1,
-                0,
-                size,
-            );
+            let later = Entry {
+                code: x.code + (code::LATER_VALUE - code::FIRST_VALUE),
+                ..x
+            };
+            grow(list, state, later, 0, 1, 0, size);
             return;
         }
         if MAX_ACTIONS <= self.state.actions {
@@ -156,7 +159,7 @@ impl CodeBuilder<'_> {
         }
         let list = &mut *self.list;
         let state = &mut self.state;
-        grow(list, state, x.code, x.first, x.second, 1, 1, 0, size);
+        grow(list, state, x, 1, 1, 0, size);
     }
 
     // Only ever down: after a ternary one of two values is there.
@@ -186,7 +189,7 @@ impl CodeBuilder<'_> {
             self.state.refused = Some(stop);
             return;
         }
-        if self.list[LABELS + l as usize] != 0 {
+        if self.list[LABELS_AT + l as usize] != 0 {
             self.state.refused = Some(stop);
             return;
         }
@@ -195,6 +198,7 @@ impl CodeBuilder<'_> {
         grow_marked(list, state, l);
     }
 
+    // The marks of a script and of a Default are two steps of the definition, told apart by the refusal that they hand on.
     pub fn mark_label(&mut self, label: Label)
         ensures { (F : List ℕ) → Runs F (steps.mark_label label.0) self.old tt self.new }
     {

@@ -8,32 +8,26 @@ ghost use Rattle.builder.specs.Labels.{labels_of_forest, elements_from};
 ghost use Rattle.builder.specs.Runs.{Keeps, Runs};
 
 use crate::builder::CodeBuilder;
-use codegen_state::{MAX_LABELS, Stop};
+use codegen_state::Stop;
 use pcode::Label;
+use slice_words::MAX_LABELS;
 
 impl CodeBuilder<'_> {
-    // The label is the number of labels made before.
+    // The label is the number of labels made before. One label is a step of the definition, and so a method, though `create_labels` makes it.
     pub fn create_label(&mut self) -> Label
         ensures { (F : List ℕ) → Runs F create_label self.old result.0 self.new }
     {
-        let label = Label(self.state.labels);
-        if self.state.refused.is_some() {
-            return label;
-        }
-        if MAX_LABELS <= self.state.labels {
-            self.state.refused = Some(Stop::TooMany);
-            return label;
-        }
-        self.state.labels += 1;
-        label
+        self.create_labels(1)
     }
 
     // A label for each Case and Default of a switch, in order, the first of them the number of labels made before.
+    // `n` is how many: with the numbers of this name in other crates it has only its type in common.
     pub fn create_labels(&mut self, n: u32) -> Label
         ensures keeps { Keeps self.old self.new }
         ensures bound { result.0 ≤ 1024 }
         ensures runs { (F : List ℕ) (ms : Forest Meaning) → labels_of_forest ms ≡ n →
             Runs F (with_labels ms) self.old (elements_from result.0 ms) self.new }
+        ensures one { n ≡ 1 → (F : List ℕ) → Runs F create_label self.old result.0 self.new }
     {
         let first = Label(self.state.labels);
         if self.state.refused.is_some() {

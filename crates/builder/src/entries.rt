@@ -1,13 +1,14 @@
-// Entries of the list slice: three words each.
+// Entries of the list slice.
 ghost use Rattle.std.specs.Prelude.{◌≡◌, ◌+◌, ◌*◌, ◌<◌, ◌≤◌, length};
 ghost use Rattle.codegen_state.specs.Does.{Fine};
 ghost use Rattle.builder.specs.Entries.{put3, Grown, Marked};
 ghost use Rattle.builder.specs.Values.{IsValue};
 
-use codegen_state::{BuilderState, LABELS};
+use codegen_state::BuilderState;
 use pcode::PushValue;
-use slice_words::{Entry, code};
+use slice_words::{Entry, LABELS_AT, code};
 
+// Three words in a row, as programs in other languages read an entry: its code is one of them. They are handed one by one, since `grow` alone has them together.
 pub fn put(list: &mut [u32], i: usize, code: u32, first: u32, second: u32)
     requires { i * 3 + 2 < length list.old }
     ensures { list.new ≡ put3 list.old i code first second }
@@ -22,9 +23,7 @@ pub fn put(list: &mut [u32], i: usize, code: u32, first: u32, second: u32)
 pub fn grow(
     list: &mut [u32],
     state: &mut BuilderState,
-    code: u32,
-    first: u32,
-    second: u32,
+    entry: Entry,
     actions: u32,
     values: u32,
     marks: u32,
@@ -35,14 +34,14 @@ pub fn grow(
     requires actions_bound { actions ≤ 1 }
     requires values_bound { values ≤ 1 }
     requires marks_bound { marks ≤ 1 }
-    ensures { Grown state.old list.old code first second actions values marks size state.new list.new }
+    ensures { Grown state.old list.old entry.code entry.first entry.second actions values marks size state.new list.new }
 {
     state.top -= 1;
     state.actions += actions;
     state.values += values;
     state.marks += marks;
     state.size = size;
-    put(list, state.top, code, first, second);
+    put(list, state.top, entry.code, entry.first, entry.second);
 }
 
 // A mark more, and the word of its label says so.
@@ -53,8 +52,13 @@ pub(crate) fn grow_marked(list: &mut [u32], state: &mut BuilderState, label: u32
     ensures { Marked state.old list.old label state.new list.new }
 {
     let size = state.size;
-    grow(list, state, code::MARK, label, 0, 0, 0, 1, size);
-    list[LABELS + label as usize] = 1;
+    let entry = Entry {
+        code: code::MARK,
+        first: label,
+        second: 0,
+    };
+    grow(list, state, entry, 0, 0, 1, size);
+    list[LABELS_AT + label as usize] = 1;
 }
 
 // The entry of the first value of a Push; a later one has a higher code.

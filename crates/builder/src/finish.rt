@@ -9,19 +9,12 @@ ghost use Rattle.builder.specs.Places.{Copied, Cleared, placed, placed_at, actio
 
 use crate::entries::put;
 use crate::move_list::move_list;
-use codegen_state::{BuilderState, LABELS, MAX_ENTRIES, MAX_LABELS};
+use codegen_state::BuilderState;
 use pcode::{Label, Position};
-use slice_words::{ENDS_AT, code};
+use slice_words::{ENDS_AT, LABELS_AT, MAX_ENTRIES, MAX_LABELS, code, entry_at};
 
-// Until now a label's word says only that it is marked.
-fn clear_labels(list: &mut [u32])
-    requires { 13312 ≤ length list.old }
-    ensures { Cleared list.old list.new }
-{
-    list[LABELS..ENDS_AT].fill(0);
-}
-
-// A label's word is its position plus 1, so that 0 says that no list marks it.
+// A label's word is its position plus 1, so that programs in other languages read 0 where no list marks it, and the first mark stays. The resolver's places are a
+// table of its own in which a mark writes the bare position: the two share a bound and an assignment.
 fn set_place(list: &mut [u32], l: Label, p: Position)
     requires in_bounds { 13312 ≤ length list.old }
     requires p_bound { p.0 ≤ 4096 }
@@ -31,42 +24,33 @@ fn set_place(list: &mut [u32], l: Label, p: Position)
     if MAX_LABELS <= label {
         return;
     }
-    let at = LABELS + label as usize;
+    let at = LABELS_AT + label as usize;
     if list[at] != 0 {
         return;
     }
     list[at] = p.0 + 1;
 }
 
-// The label that entry i marks, if it is a mark.
+// The label that entry i marks, if it is a mark. The resolver's `mark_entry` has the test in common, but not the table.
 fn set_place_at(list: &mut [u32], i: usize, p: Position)
     requires in_bounds { 13312 ≤ length list.old }
     requires i_bound { i < 4096 }
     requires p_bound { p.0 ≤ 4096 }
     ensures { list.new ≡ placed_at list.old i p.0 }
 {
-    let at = i * 3;
-    if list[at] != code::MARK {
-        return;
+    let entry = entry_at(list, i);
+    if entry.code == code::MARK {
+        set_place(list, Label(entry.first), p);
     }
-    let label = Label(list[at + 1]);
-    set_place(list, label, p);
 }
 
-// How many actions an entry adds to its list, by its code and that of the entry before: a mark adds none, and a later value joins the Push before it.
+// How many actions an entry adds to its list, by its code and that of the entry before: a mark adds none, and a later value joins the Push before it. The codes are
+// the slice's words. The resolver asks the code alone, since of its lists it is known that a later value has a Push before it; of those here it is not.
 fn actions_added(code: u32, before: u32) -> u32
     ensures { result ≡ actions_added code before }
 {
-    if code == code::MARK {
-        return 0;
-    }
-    if code < code::LATER_VALUE {
-        return 1;
-    }
-    if before < code::FIRST_VALUE {
-        return 1;
-    }
-    0
+    let begins = code < code::LATER_VALUE || before < code::FIRST_VALUE;
+    u32::from(code != code::MARK && begins)
 }
 
 // The positions of the labels that one list marks. Its first entry stands last.
@@ -78,7 +62,7 @@ fn label_positions(list: &mut [u32], from: usize, end: usize)
     let mut before: u32 = 0;
     for i in (from..end).rev() {
         set_place_at(list, i, Position(position));
-        let code = list[i * 3];
+        let code = entry_at(list, i).code;
         position += actions_added(code, before);
         before = code;
     }
@@ -107,7 +91,8 @@ pub fn into_actions(list: &mut [u32], state: BuilderState)
     let low = move_list(list, state.low, state.top, MAX_ENTRIES);
     let lists = state.lists as usize;
     list[ENDS_AT + lists] = low as u32;
-    clear_labels(list);
+    // Until now a label's word says only that it is marked.
+    list[LABELS_AT..ENDS_AT].fill(0);
     label_positions(list, state.low, low);
     function_positions(list, lists);
     put(list, low - 1, code::CONSTANT_POOL, state.constants, 0);

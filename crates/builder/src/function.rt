@@ -10,8 +10,8 @@ ghost use Rattle.builder.specs.Runs.{Keeps, EndsList};
 use crate::builder::CodeBuilder;
 use crate::entries::put;
 use crate::move_list::move_list;
-use codegen_state::{BuilderState, MAX_ACTIONS, Stop};
-use slice_words::{ENDS_AT, code};
+use codegen_state::{BuilderState, Stop};
+use slice_words::{ENDS_AT, MAX_ACTIONS, code};
 
 // The list that waits for a function's list to end: its first entry, and its stack size.
 #[derive(Clone, Copy)]
@@ -37,13 +37,14 @@ impl CodeBuilder<'_> {
         outer
     }
 
-    // `number` is the number of the function's record, and `up` is 1 if it leaves a value.
-    pub fn end_function(&mut self, outer: Outer, number: u32, up: u32)
+    // `function` is the number of the function's record, and `up` is how many values it leaves, 0 or 1, a count that is added to the stack's
+    // size.
+    pub fn end_function(&mut self, outer: Outer, function: u32, up: u32)
         requires ready { Ready self.old.state self.old.list.now outer.base outer.size }
         requires up_bound { up ≤ 1 }
         ensures keeps { Keeps self.old self.new }
-        ensures ends { (F : List ℕ) → T (names_function F number) → moved (define_delta (header_in F number)) outer.size ≡ outer.size + up →
-            EndsList F (header_in F number) self.old outer.base outer.size self.new }
+        ensures ends { (F : List ℕ) → T (names_function F function) → moved (define_delta (header_in F function)) outer.size ≡ outer.size + up →
+            EndsList F (header_in F function) self.old outer.base outer.size self.new }
     {
         if self.state.refused.is_some() {
             return;
@@ -54,18 +55,19 @@ impl CodeBuilder<'_> {
         }
         let list = &mut *self.list;
         let state = &mut self.state;
-        close(list, state, outer, number, up);
+        close(list, state, outer, function, up);
     }
 }
 
+// The reader's `close` has the last entry alone in common: it counts no actions and sizes, and settles branches entry by entry.
 // The list under construction joins the finished ones, and an entry in the place of its first one has the function's number.
-fn close(list: &mut [u32], state: &mut BuilderState, outer: Outer, number: u32, up: u32)
+fn close(list: &mut [u32], state: &mut BuilderState, outer: Outer, function: u32, up: u32)
     requires fine { Fine state.old list.old }
     requires going { IsNone state.old.refused }
     requires actions_bound { state.old.actions < 1024 }
     requires ready { Ready state.old list.old outer.base outer.size }
     requires up_bound { up ≤ 1 }
-    ensures { Closed state.old list.old outer.base outer.size number up state.new list.new }
+    ensures { Closed state.old list.old outer.base outer.size function up state.new list.new }
 {
     let end = state.base;
     let low = move_list(list, state.low, state.top, end);
@@ -77,5 +79,5 @@ fn close(list: &mut [u32], state: &mut BuilderState, outer: Outer, number: u32, 
     state.low = low;
     state.top = end - 1;
     state.base = outer.base;
-    put(list, state.top, code::FUNCTION, state.lists, number);
+    put(list, state.top, code::FUNCTION, state.lists, function);
 }

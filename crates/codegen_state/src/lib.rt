@@ -4,21 +4,12 @@
 ghost use Rattle.std.specs.Prelude.{◌≡◌};
 ghost use Rattle.codegen_state.specs.Stop.{number_of};
 
-// Areas by their first words: labels, and behind the slice the heads and the links of the pool's index.
-pub const LABELS: usize = 12288;
+use slice_words::LIST_WORDS;
 
-pub const HEADS: usize = 16384;
+// Behind the slice's words stand those of the pool's index: a head for each hash, and a link for each string.
+pub const HEADS: usize = LIST_WORDS;
 
-pub const LINKS: usize = 18432;
-
-// The slice's entries, and document 01's limits.
-pub const MAX_ENTRIES: usize = 4096;
-
-pub const MAX_ACTIONS: u32 = 1024;
-
-pub const MAX_VALUES: u32 = 2048;
-
-pub const MAX_LABELS: u32 = 1024;
+pub const LINKS: usize = HEADS + 2048;
 
 // Why no step is done any more. The discriminants are the refusals' numbers; no script of ours marks a label twice.
 #[derive(Clone, Copy, Debug, PartialEq, Eq)]
@@ -31,6 +22,7 @@ pub enum Stop {
 }
 
 impl Stop {
+    // The discriminant, by a name that says what it is, as a Refusal has it: a From into u32 would say less.
     pub fn number(self) -> u32
         ensures { result ≡ number_of self }
     {
@@ -41,7 +33,7 @@ impl Stop {
 // After `refused` no step is done. Counted over all lists: actions, push values, labels made, marks, strings of
 // the pool, finished lists. `total` is the pool's 16-bit total, `size` the tracked stack size, `sizes` the sum of those of the lists that wait for a
 // function's list to end. The finished lists end before entry `low`; the list under construction stands from entry `top` to `base`, its last entry
-// first, and the lists that wait from `base` on.
+// first, and the lists that wait from `base` on. Those are positions in the lent words, since the two calls use no heap.
 #[derive(Clone, Copy)]
 pub struct BuilderState {
     pub actions: u32,

@@ -16,6 +16,11 @@ pub rounds_whole : (n : ℕ) → n ≤ 4096 → n / 8 + 1 ≡ rounds n
 unfolding rounds
 rounds_whole n h = rw (le-ltb 4096 n h)
 
+-- a hash has a head of the index
+pub headed : (s : List ℕ) {h : ℕ} → h ≡ hash s → (h ≡ hash s) × (h < 2048)
+unfolding hash
+headed s e = (e, omega (arith, e))
+
 -- a string shorter than a word
 pub hash_short : (s : List ℕ) {w h : ℕ} → length s < 4 → w ≡ word s 0 → h ≡ mixed (length s % 65536) w w → h % 2048 ≡ hash s
 unfolding hash hashed

@@ -98,11 +98,11 @@ module _ (F w : List ℕ) (n s : ℕ) where
             rest = rw q (sym (passed_over n (omega arith) ∙ none_from));
           }
 
-      pub search_goes_on : {next : ℕ} {f g : Option ℕ} {t : Bool} {i after : ℕ} → Searching next f → (next ≡ 0 → ⊥) → i ≡ next - 1 →
+      pub search_goes_on : {next : ℕ} {f g : Option ℕ} {t : Bool} {i after : ℕ} → Searching next f → (1 ≤ next) × (i ≡ next - 1) →
           t ≡ same_bytes (text_in F s) (text_in F (get_or w (14336 + i) 0)) → found_of g ≡ cond t (some i) (found_of f) → after ≡ get_or w (18432 + i) 0 → Searching after g
-      search_goes_on {next} {f} {g} {t} {i} {after} v z d u r a =
-          let m : next ≡ suc i = omega arith in
-          let less : i < n = omega (arith, v.within) in
+      search_goes_on {next} {f} {g} {t} {i} {after} v d u r a =
+          let m : next ≡ suc i = omega (arith, d.0, d.1) in
+          let less : i < n = omega (arith, m, v.within) in
           let has : hash_at F w i ≡ sought_hash = latest_has (hash_at F w) sought_hash i (sym m ∙ v.latest_is ∙ ap (latest (hash_at F w) sought_hash) m) in
           let q : after ≡ latest (hash_at F w) sought_hash i = a ∙ x.links i less ∙ ap (λ (k : ℕ). latest (hash_at F w) k i) has in
           record {
@@ -111,8 +111,8 @@ module _ (F w : List ℕ) (n s : ℕ) where
             rest = rw q (r ∙ rw (u, v.rest, m) (sym (passed_over i (omega arith) ∙ place_at_index i less)));
           }
 
-      pub search_falls : {next : ℕ} {f : Option ℕ} {i after : ℕ} → Searching next f → (next ≡ 0 → ⊥) → i ≡ next - 1 → after ≡ get_or w (18432 + i) 0 → after < next
-      search_falls {next} {f} {i} v z d a = omega (arith, a ∙ x.links i (omega (arith, v.within)), latest_le (hash_at F w) (hash_at F w i) i)
+      pub search_falls : {next : ℕ} {f : Option ℕ} {i after : ℕ} → Searching next f → (1 ≤ next) × (i ≡ next - 1) → after ≡ get_or w (18432 + i) 0 → after < next
+      search_falls {next} {f} {i} v d a = omega (arith, d.0, d.1, a ∙ x.links i (omega (arith, v.within, d.0, d.1)), latest_le (hash_at F w) (hash_at F w i) i)
 
-    pub search_ends : {next : ℕ} {f : Option ℕ} → Searching next f → next ≡ 0 → found_of f ≡ place F (pool w n) s
-    search_ends v z = v.rest ∙ ap place_from z
+    pub search_ends : {next : ℕ} {f : Option ℕ} → Searching next f → (1 ≤ next → ⊥) → found_of f ≡ place F (pool w n) s
+    search_ends {next} v z = let e : next ≡ 0 = omega arith in v.rest ∙ ap place_from e

@@ -33,14 +33,15 @@ impl<'a> ScriptContext<'a> {
     ghost use Rattle.constants.specs.Pool.{place, found_of};
     ghost use Rattle.constants.specs.Acts.{Acts};
 
-    // The string of a reference.
+    // The string of a reference, which `s` is throughout. The byte writer's method of this name writes the string.
     pub fn text(&self, s: u32) -> &'a [u8]
         ensures { result.now ≡ text_in self.now.script.bytes.now s }
     {
         text(&self.script, s)
     }
 
-    // Whether a string of the pool is the one sought: the same reference is the same string.
+    // Whether a string of the pool is the one sought: the same reference is the same string, and of others `==` decides,
+    // in `same_bytes`, which carries the law of it.
     fn same_text(&self, sought: &[u8], s: u32, held: u32) -> bool
         requires { sought.now ≡ text_in self.now.script.bytes.now s }
         ensures { result ≡ same_bytes (text_in self.now.script.bytes.now s) (text_in self.now.script.bytes.now held) }
@@ -48,17 +49,17 @@ impl<'a> ScriptContext<'a> {
         held == s || same_bytes(sought, self.text(held))
     }
 
-    // The first of the pool's strings with the same bytes, among those with the same hash h.
+    // The first of the pool's strings with the same bytes, among those with the same hash h. The two calls use no heap, so that the index is words of the lent
+    // slice, with 0 for no string. `successors` would take the two lines that follow a link into closures, and `filter` and `last` the other two.
     fn find(&self, s: u32, h: u32) -> Option<u32>
-        requires { (h ≡ hash (text_in self.now.script.bytes.now s)) × (h < 2048) }
+        requires { h ≡ hash (text_in self.now.script.bytes.now s) }
         ensures { found_of result ≡ place self.now.script.bytes.now (pool_of self.now.builder.state self.now.builder.list.now) s }
     {
         let sought = self.text(s);
         let list = &*self.builder.list;
         let mut next = list[HEADS + h as usize];
         let mut found = None;
-        while next != 0 {
-            let i = next - 1;
+        while let Some(i) = next.checked_sub(1) {
             let at = i as usize;
             if self.same_text(sought, s, list[POOL_AT + at]) {
                 found = Some(i);
@@ -71,7 +72,7 @@ impl<'a> ScriptContext<'a> {
     // A string that the pool does not hold joins it if the total stays a 16-bit number. The value is pushed first: it makes the room for the pool's word.
     fn push_new(&mut self, s: u32, h: u32)
         requires going { IsNone self.old.builder.state.refused }
-        requires h_value { (h ≡ hash (text_in self.old.script.bytes.now s)) × (h < 2048) }
+        requires h_value { h ≡ hash (text_in self.old.script.bytes.now s) }
         ensures { T (names_string self.old.script.bytes.now s) →
             place self.old.script.bytes.now (pool_of self.old.builder.state self.old.builder.list.now) s ≡ none →
             Acts (push_string (text_in self.old.script.bytes.now s)) self.old tt self.new }

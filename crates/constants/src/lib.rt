@@ -7,7 +7,11 @@ ghost use Rattle.codegen_state.specs.Index.{word, mixed, rounds, hash};
 
 pub mod context;
 
-// Four bytes as one number, which the compiler reads at once.
+// The longest string of which all bytes are hashed: a limit of the hash, and no table's length.
+const WHOLE: usize = 4096;
+
+// Four bytes as one number, which the compiler reads at once. Elsewhere words are read of a file as u32, or off the front of bytes as an Option: here the string is
+// known to be long enough, and the hash counts in u64.
 fn word(s: &[u8], i: usize) -> u64
     requires { i + 4 ≤ length s.now }
     ensures { (result ≡ word s.now i) × (result < 4294967296) }
@@ -15,7 +19,7 @@ fn word(s: &[u8], i: usize) -> u64
     u64::from(u32::from_le_bytes([s[i], s[i + 1], s[i + 2], s[i + 3]]))
 }
 
-// The bytes of a string that is shorter than a word, with zeros behind them.
+// The bytes of a string that is shorter than a word, with zeros behind them: for those the buffer has a word's length.
 fn short_word(s: &[u8]) -> u64
     requires { length s.now < 4 }
     ensures { (result ≡ word s.now 0) × (result < 4294967296) }
@@ -38,7 +42,7 @@ fn rounds(n: usize) -> usize
     requires { 4 ≤ n }
     ensures { (result ≡ rounds n) × (4 * result ≤ n) }
 {
-    if 4096 < n {
+    if WHOLE < n {
         return 32;
     }
     n / 8 + 1

@@ -13,7 +13,8 @@ ghost use Rattle.slice_words.specs.References.{text_at, param_of};
 use hir::Record;
 use script_records::layout::ScriptFile;
 
-// The areas of the slice by their first words: the entries begin it, and the labels, the list ends and the pool words follow.
+// The areas of the slice by their first words: the entries begin it, and the labels, the list ends and the pool words follow. Programs in other languages
+// lend and read the slice as one run of words, so that an area is a position in it.
 pub const LABELS_AT: usize = 12288;
 
 pub const ENDS_AT: usize = 13312;
@@ -23,16 +24,20 @@ pub const POOL_AT: usize = 14336;
 // The words of the slice that a list needs.
 pub const LIST_WORDS: usize = 16384;
 
-// The entries that the slice holds, and document 01's limits of actions and of pushed values.
+// The entries that the slice holds, and document 01's limits of actions, pushed values and labels: the room for each is fixed in what the caller lends.
 pub const MAX_ENTRIES: usize = 4096;
 
 pub const MAX_ACTIONS: u32 = 1024;
 
 pub const MAX_VALUES: u32 = 2048;
 
-// The reference of an empty string that comes from no string of the file.
+pub const MAX_LABELS: u32 = 1024;
+
+// The reference of an empty string that comes from no string of the file. References are words of the slice that programs in other languages read, so that it
+// is a number and no None.
 pub const NO_STRING: u32 = 0xffff_ffff;
 
+// An entry as the slice has it for programs in other languages: three words in a row, of which the code is a number.
 #[derive(Clone, Copy)]
 pub struct Entry {
     pub code: u32,
@@ -73,7 +78,8 @@ pub struct Param {
     pub register: u32,
 }
 
-// A parameter's record holds its register plus 1, or 0 for none. Any other record is a parameter with no name.
+// A parameter's record holds its register plus 1, or 0 for none. Any other record is a parameter with no name:
+// so this is a reading of two kinds of records, and no From by which any record would convert.
 pub fn param_of(root: Record) -> Param
     ensures { result ≡ param_of root }
 {

@@ -1,6 +1,7 @@
 use mathlib.Core.Logic.{inl, inr}
 use Rattle.access.proofs.Access.call.Goals as goal
 
+-- The arm says which access it is, and what is called does its step: a lemma would say no more.
 pub returns-in-Variable : goal.returns-in-Variable
 returns-in-Variable c = λ F. elim c.in-Variable.is [ inl e ↦ rw e (c.action_down.ensures F) | inr e ↦ rw e (c.action_down.ensures F) ]
 
