@@ -66,11 +66,6 @@ pub record Building (F : List ℕ) (l : Layout) (w sizes offsets : List ℕ) (j 
   pub wrote : Wrote o at (bytes_of F w j (items_from F w j i)) next o'
   pub opened : OpenIn F l w sizes offsets j 0 (items_from F w j i) at begun
 
--- one of the lists, by their counted number
-pub writable_at : {F : List ℕ} {l : Layout} {w sizes offsets : List ℕ} → Writable F l w sizes offsets → {n : ℕ} → n ≡ count_of w → {j : ℕ} → j < n →
-    WritableList F l w sizes offsets j
-writable_at h e {j} k = h.list j (omega (arith, e))
-
 module _ {F : List ℕ} {l : Layout} {w sizes offsets : List ℕ} {j : ℕ} (s : WritableList F l w sizes offsets j) (o : List ℕ) (at : ℕ) where
   pub building_start : Building F l w sizes offsets j o at o (end_of w j) at at
   building_start = record { low = s.order; high = omega arith; wrote = rw s.none (wrote_none o at); opened = s.start at at }

@@ -1,7 +1,7 @@
 #![tactic(auto)]
 
 // The action bytes of compiled lists.
-mod list;
+pub mod list;
 
 ghost use Rattle.std.specs.Prelude.{◌≡◌, length};
 ghost use Rattle.lowering.specs.Builder.{limits01};
@@ -38,7 +38,7 @@ fn write_top(lists: &Lists, tables: &Tables, output: &mut [u8]) -> Result<usize,
         output,
         at: 0,
     };
-    write_list(lists, tables, lists.count - 1, &mut w);
+    write_list(lists.list, tables, lists.count - 1, &mut w);
     w.byte(END);
     Ok(w.at)
 }

@@ -1,5 +1,5 @@
 // Pushed values.
-ghost use Rattle.std.specs.Prelude.{◌%◌, leb};
+ghost use Rattle.std.specs.Prelude.{leb};
 ghost use Rattle.action_format.specs.Bytes.{constant_bytes};
 ghost use Rattle.byte_writer.specs.Writer.{HasRoom, Writes};
 ghost use Rattle.byte_writer.specs.Data.{operand_data, value_data};
@@ -44,11 +44,10 @@ impl Writer<'_> {
 
     // A value with its type, by the words of its entry.
     #[tactic(auto, using(crate::proofs::Writes::writing), unfolding(crate::specs::Data::value_data))]
-    pub fn value(&mut self, entry: Entry)
-        requires { let s = self.old.script in HasRoom self.old (value_data s.bytes.now s.layout (entry.code % 16) entry.first entry.second) }
-        ensures { let s = self.old.script in Writes self.old (value_data s.bytes.now s.layout (entry.code % 16) entry.first entry.second) self.new }
+    pub fn value(&mut self, kind: u8, entry: Entry)
+        requires { let s = self.old.script in HasRoom self.old (value_data s.bytes.now s.layout kind entry.first entry.second) }
+        ensures { let s = self.old.script in Writes self.old (value_data s.bytes.now s.layout kind entry.first entry.second) self.new }
     {
-        let kind = (entry.code % 16) as u8;
         if kind == value::CONSTANT {
             self.constant(entry.first);
         } else {

@@ -36,6 +36,24 @@ pub fn count_lists(list: &[u32]) -> usize
     }
 }
 
+// The entry after the list at place j of the finishing order, in a slice of which no more is known than its length.
+pub fn list_end(list: &[u32], j: usize) -> usize
+    requires in_bounds { 16384 ≤ length list.now }
+    requires j_bound { j < 1024 }
+    ensures { result ≡ end_of list.now j }
+{
+    list[ENDS_AT + j] as usize
+}
+
+// The list's last entry, which stands first. The strings of a script file begin likewise, but in another table with another rule for its ends.
+pub fn list_start(list: &[u32], j: usize) -> usize
+    requires in_bounds { 16384 ≤ length list.now }
+    requires j_bound { j < 1024 }
+    ensures { result ≡ start_of list.now j }
+{
+    if j == 0 { 0 } else { list_end(list, j - 1) }
+}
+
 impl<'a> Lists<'a> {
     pub fn new(file: &'a [u8], list: &'a [u32]) -> Lists<'a>
         requires { Lowered file.now list.now }
@@ -54,19 +72,18 @@ impl<'a> Lists<'a> {
         }
     }
 
-    // The entry after the list at this place. The place is a method's one argument: the loops over all lists count it, and nothing goes with it.
+    // The same of these lists. The place is a method's one argument: the loops over all lists count it, and nothing goes with it.
     pub fn end(&self, j: usize) -> usize
         requires { j < 1024 }
         ensures { result ≡ end_of self.now.list.now j }
     {
-        self.list[ENDS_AT + j] as usize
+        list_end(self.list, j)
     }
 
-    // The list's last entry, which stands first. The strings of a script file begin likewise, but in another table with another rule for its ends.
     pub fn start(&self, j: usize) -> usize
         requires { j < 1024 }
         ensures { result ≡ start_of self.now.list.now j }
     {
-        if j == 0 { 0 } else { self.end(j - 1) }
+        list_start(self.list, j)
     }
 }

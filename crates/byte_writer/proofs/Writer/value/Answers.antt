@@ -1,4 +1,3 @@
-use Rattle.std.proofs.Common.{◌%◌}
 use borrow.Author.Tests.{ne_eqb}
 use Rattle.script_records.specs.declared.layout.ScriptFile.{ScriptFile}
 use Rattle.byte_writer.specs.Data.{operand_data, value_data}
@@ -8,5 +7,5 @@ use Rattle.byte_writer.proofs.Writer.value.Goals as goal
 pub returns-else-kind-eq-CONSTANT : goal.returns-else-kind-eq-CONSTANT
 unfolding value_data
 returns-else-kind-eq-CONSTANT c =
-    rw (ne_eqb (c.args.entry.code % 16) 8 c.if-kind-eq-CONSTANT.false)
-    (writes_next (λ (s : ScriptFile). operand_data s.bytes.now s.layout (c.args.entry.code % 16) c.args.entry.first c.args.entry.second) c.byte.ensures c.operand.ensures)
+    rw (ne_eqb c.args.kind 8 c.if-kind-eq-CONSTANT.false)
+    (writes_next (λ (s : ScriptFile). operand_data s.bytes.now s.layout c.args.kind c.args.entry.first c.args.entry.second) c.byte.ensures c.operand.ensures)
