@@ -19,7 +19,8 @@ pub fn put(list: &mut [u32], i: usize, code: u32, first: u32, second: u32)
     list[at + 2] = second;
 }
 
-// One entry more in the list under construction: so many actions, values and marks more, and this stack size.
+// One entry more in the list under construction: so many actions, values and marks more, and this stack size. No two of the four calls add the same ones, so that
+// the numbers say it as well as an enum of the calls would.
 pub fn grow(
     list: &mut [u32],
     state: &mut BuilderState,
@@ -44,7 +45,7 @@ pub fn grow(
     put(list, state.top, entry.code, entry.first, entry.second);
 }
 
-// A mark more, and the word of its label says so.
+// A mark more, and the word of its label says so: 1 and no bool, since the label's place in the slice gets its position in the end.
 pub(crate) fn grow_marked(list: &mut [u32], state: &mut BuilderState, label: u32)
     requires fine { Fine state.old list.old }
     requires low_lt_top { state.old.low < state.old.top }
