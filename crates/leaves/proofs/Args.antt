@@ -55,17 +55,6 @@ pub before_all : {F : List ℕ} {l : Layout} {p : Part} → Within F l p → Wit
 unfolding rules.parted rules.parted_in
 before_all w = record { layout = w.layout; inside = omega arith; known = omega (arith, w.inside, w.known); whole = refl; sound = w.sound }
 
-pub args_then : {F : List ℕ} {l : Layout} {w0 : List ℕ} {p : Part} {b0 : BuilderState} {w1 : List ℕ} {middle : Part} {b1 : BuilderState} {w : List ℕ} {left : Part} {b : BuilderState} →
-    Args F l w0 p b0 w1 middle b1 → Args F l w1 middle b1 w left b → Args F l w0 p b0 w left b
-args_then i j = record {
-  same = j.same ∙ i.same;
-  fine = j.fine;
-  named = λ n. j.named (i.named n);
-  within = j.within;
-  fewer = omega (arith, i.fewer, j.fewer);
-  list = j.list ∙ i.list;
-}
-
 pub reversed_more : (F : List ℕ) (l : Layout) (p : Part) {t : Node Part} → IsNode F l p t → 0 < p.n → exprs_reversed (meanings_at F p) ≡ expr (kid_at F p 0) >> exprs_reversed (meanings_at F t.before)
 unfolding meanings
 reversed_more F l p i h = rw (trees_more F l p i h)
@@ -87,9 +76,6 @@ module _ {F : List ℕ} {l : Layout} {w0 : List ℕ} {p : Part} {b0 : BuilderSta
   pub args_again : (left.n ≡ 0 → ⊥) → {before : Part} → before ≡ (node_of F l left).before → {b1 : BuilderState} {w1 : List ℕ} → Does F ((kid_at F left 0).gen_expr false) b w tt b1 w1 → length w1 ≡ length w →
       Args F l w0 p b0 w1 before b1
   args_again z e o q = rw e (args_again_at z {t = node_of F l left} refl o q)
-
-  pub args_less : (left.n ≡ 0 → ⊥) → {before : Part} → before ≡ (node_of F l left).before → before.n < left.n
-  args_less z e = rw e (omega (arith, (is_node F l left i.within refl).apart))
 
   -- after a refusal nothing more is done
   pub args_stopped : IsSome b.refused → Does F (gen_arguments (meanings_at F p)) b0 w0 tt b w

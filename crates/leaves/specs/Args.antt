@@ -4,7 +4,7 @@ use Rattle.script_records.specs.declared.layout.Layout.{Layout}
 use Rattle.script_records.specs.declared.part.Part.{Part}
 use Rattle.lowering.specs.Statement.{exprs_reversed}
 use Rattle.codegen_state.specs.declared.BuilderState.{BuilderState}
-use Rattle.codegen_state.specs.View.{Held, held, after}
+use Rattle.codegen_state.specs.View.{held, after}
 use Rattle.codegen_state.specs.Does.{Fine, Named}
 use Rattle.tree.specs.declared.Trees.{Trees}
 use Rattle.tree.specs.Within.{Within, meanings_at}
@@ -20,12 +20,6 @@ pub record Args (F : List ℕ) (l : Layout) (w0 : List ℕ) (p : Part) (b0 : Bui
   pub within : Within F l left
   pub fewer : left.n ≤ p.n
   pub list : length w ≡ length w0
-
--- the arguments in `left` generate what those in p do
-pub record Unchanged (F : List ℕ) (l : Layout) (p left : Part) : Type 0 where
-  pub same : (v : Held (Unit {0})) → after v (exprs_reversed (meanings_at F left)) ≡ after v (exprs_reversed (meanings_at F p))
-  pub within : Within F l left
-  pub fewer : left.n ≤ p.n
 
 -- from one context to another, some arguments of t are generated, and those in `left` are not
 pub record Pushes (t : Trees) (c : ScriptContext) (left : Trees) (r : ScriptContext) : Type 0 where

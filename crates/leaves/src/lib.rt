@@ -17,12 +17,12 @@ ghost use Rattle.lowering.specs.Statement as statement;
 ghost use Rattle.list_slice.specs.File.{names_string, text_in};
 ghost use Rattle.tree.specs.Trees.{rec_of, is_labelled, is_case, meant};
 ghost use Rattle.tree.specs.Within.{constant_named, target_named, record_named};
-ghost use Rattle.tree.specs.Handle.{file_of, meanings_of, kid_of, list_of};
+ghost use Rattle.tree.specs.Handle.{meanings_of, kid_of, list_of};
 ghost use Rattle.builder.specs.Runs.{Runs};
 ghost use Rattle.constants.specs.Acts.{Acts};
 ghost use Rattle.access.specs.Accesses.{access_of};
 ghost use Rattle.rows.specs.Rows.{label_of, any_hoisted};
-ghost use Rattle.leaves.specs.Args.{Unchanged, Pushes};
+ghost use Rattle.leaves.specs.Args.{Pushes};
 
 use access::Access;
 use builder::builder::CodeBuilder;
