@@ -19,7 +19,8 @@ use Rattle.codegen_state.specs.View.{state, carry, after}
 use Rattle.codegen_state.specs.Does.{Fine, Does}
 use Rattle.codegen_state.proofs.Steps.{held_holds}
 use Rattle.builder.specs.Labels.{one_label, labels_of_forest, with_number, elements_from}
-use Rattle.builder.proofs.Leaves.{changed, changed_named, refused_with, refuses_in}
+use Rattle.builder.specs.Entries.{refused_with}
+use Rattle.builder.proofs.Leaves.{changed, changed_named, refuses_in}
 use Rattle.builder.proofs.Marks.{length_labels, labelled_fine, labelled_state}
 
 -- n labels more

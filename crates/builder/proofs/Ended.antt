@@ -25,9 +25,9 @@ use Rattle.codegen_state.specs.View.{gather, labels_of, ends_of, pool_of, open_o
 use Rattle.codegen_state.specs.Does.{Begins, Fine, Named, Ready, Ends}
 use Rattle.codegen_state.proofs.Steps.{held_stopped, held_holds}
 use Rattle.codegen_state.proofs.Index.{indexed_same}
-use Rattle.builder.specs.Entries.{ended, Closed}
+use Rattle.builder.specs.Entries.{ended, Closed, refused_with}
 use Rattle.builder.specs.Move.{Moved}
-use Rattle.builder.proofs.Leaves.{refused_with, refuses, room_action, run_same, cut_same, gather_more}
+use Rattle.builder.proofs.Leaves.{refuses, room_action, run_same, cut_same, gather_more}
 use Rattle.builder.proofs.Body.{take_run, drop_run}
 use Rattle.builder.proofs.Move.{with_end, end_long, end_entry, end_own, end_word, end_is, same_part, side_word, part_more}
 

@@ -25,7 +25,7 @@ use Rattle.codegen_state.specs.View.{gather, labels_of, ends_of, pool_of, open_o
 use Rattle.codegen_state.specs.Does.{marked, Written, Begins, Fine, Named, Does, Says}
 use Rattle.codegen_state.proofs.Steps.{held_stopped, held_holds}
 use Rattle.codegen_state.proofs.Index.{indexed_same}
-use Rattle.builder.specs.Entries.{put3, grown, Grown}
+use Rattle.builder.specs.Entries.{put3, grown, Grown, refused_with}
 use Rattle.builder.specs.Runs.{Emits}
 use Rattle.builder.proofs.Codes.{op_code, value_to}
 use Rattle.builder.proofs.Words.{length_put, entry_same, entry_other, getD_put, side_put}
@@ -81,9 +81,6 @@ pub changed_named : {F : List ℕ} {b : BuilderState} {w : List ℕ} (n : Option
 changed_named n l z x = record { finished = x.finished; unfinished = x.unfinished; strings = x.strings; indexed = x.indexed }
 
 -- a refusal
-
-abbrev pub refused_with : BuilderState → Stop → BuilderState
-refused_with b x = changed b (Some x) b.labels b.size
 
 pub refused_fine : {b : BuilderState} {w : List ℕ} (x : Stop) → Fine b w → Fine (refused_with b x) w
 refused_fine {b} x f = changed_fine (Some x) b.labels b.size f (omega arith) f.labels (omega arith) f.marks

@@ -19,9 +19,9 @@ use Rattle.codegen_state.specs.Stop.{number_of}
 use Rattle.codegen_state.specs.View.{labels_of, state, held, carry, after}
 use Rattle.codegen_state.specs.Does.{marked, Fine, Does}
 use Rattle.codegen_state.proofs.Steps.{held_holds}
-use Rattle.builder.specs.Entries.{put3, Marked}
+use Rattle.builder.specs.Entries.{put3, Marked, refused_with}
 use Rattle.builder.proofs.Words.{length_put, entry_same, entry_other, getD_put, side_put, entry_side}
-use Rattle.builder.proofs.Leaves.{changed, changed_fine, changed_named, refused_with, refuses, marked_le, Wrote, grown_held, grown_fine, grown_named}
+use Rattle.builder.proofs.Leaves.{changed, changed_fine, changed_named, refuses, marked_le, Wrote, grown_held, grown_fine, grown_named}
 
 -- the stack size lowered, also after a refusal
 

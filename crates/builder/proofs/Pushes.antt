@@ -24,10 +24,10 @@ use Rattle.codegen_state.specs.View.{gather, open_of, pushed, value_in, named, s
 use Rattle.codegen_state.specs.Does.{Fine, Does}
 use Rattle.codegen_state.proofs.Steps.{held_holds}
 use Rattle.slice_words.specs.declared.Entry.{Entry}
-use Rattle.builder.specs.Entries.{Grown}
+use Rattle.builder.specs.Entries.{Grown, refused_with}
 use Rattle.builder.specs.Values.{IsValue}
 use Rattle.builder.proofs.Codes.{is_value, value_from, value_to, value_code}
-use Rattle.builder.proofs.Leaves.{refused_with, refuses, room_value, gather_more, grown_held, grown_fine, grown_named, wrote_piece}
+use Rattle.builder.proofs.Leaves.{refuses, room_value, gather_more, grown_held, grown_fine, grown_named, wrote_piece}
 
 -- the last item is a Push if the last piece is a value
 

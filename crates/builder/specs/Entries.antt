@@ -1,11 +1,30 @@
 -- Entries written, and the builders that come of it.
-use Rattle.std.specs.Prelude.{ℕ, ◌+◌, ◌-◌, ◌*◌, ◌≡◌, List, set}
+use Rattle.std.specs.Prelude.{ℕ, ◌+◌, ◌-◌, ◌*◌, ◌≡◌, List, Some, set}
+use Rattle.codegen_state.specs.declared.Stop.{Stop}
 use Rattle.codegen_state.specs.declared.BuilderState.{BuilderState}
 use Rattle.builder.specs.Move.{Moved}
 
 -- entry i is written
 unfoldable pub put3 : List ℕ → (i code first second : ℕ) → List ℕ
 put3 w i c x y = set (set (set w (i * 3) c) (i * 3 + 1) x) (i * 3 + 2) y
+
+-- after a refusal
+abbrev pub refused_with : BuilderState → Stop → BuilderState
+refused_with b n = record {
+  refused = Some n;
+  actions = b.actions;
+  values = b.values;
+  labels = b.labels;
+  marks = b.marks;
+  constants = b.constants;
+  total = b.total;
+  lists = b.lists;
+  size = b.size;
+  sizes = b.sizes;
+  low = b.low;
+  top = b.top;
+  base = b.base;
+}
 
 -- an entry more in the list under construction
 abbrev pub grown : BuilderState → (actions values marks size : ℕ) → BuilderState

@@ -1,7 +1,7 @@
 // Actions, pushes, marks and the tracked stack size (`builder.rs`).
 ghost use Rattle.codegen_state.specs.Does.{Fine, Fine-prop};
 
-use crate::entries::{grow, grow_marked, value_entry};
+use crate::entries::{grow, grow_marked, refused_with, value_entry};
 use codegen_state::{BuilderState, Stop};
 use pcode::{Label, Op, PushValue, row_of};
 use slice_words::{Entry, LABELS_AT, MAX_ACTIONS, MAX_VALUES, code, entry_at};
@@ -32,7 +32,7 @@ impl CodeBuilder<'_> {
         ensures { (F : List ℕ) → Runs F (refuse {A = Unit {0}} (number_of stop)) self.old tt self.new }
     {
         if self.state.refused.is_none() {
-            self.state.refused = Some(stop);
+            self.state = refused_with(self.state, stop);
         }
     }
 

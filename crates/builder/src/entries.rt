@@ -1,10 +1,10 @@
 // Entries of the list slice.
 ghost use Rattle.std.specs.Prelude.{◌≡◌, ◌+◌, ◌*◌, ◌<◌, ◌≤◌, length};
 ghost use Rattle.codegen_state.specs.Does.{Fine};
-ghost use Rattle.builder.specs.Entries.{put3, Grown, Marked};
+ghost use Rattle.builder.specs.Entries.{put3, refused_with, Grown, Marked};
 ghost use Rattle.builder.specs.Values.{IsValue};
 
-use codegen_state::BuilderState;
+use codegen_state::{BuilderState, Stop};
 use pcode::PushValue;
 use slice_words::{Entry, LABELS_AT, code};
 
@@ -17,6 +17,16 @@ pub fn put(list: &mut [u32], i: usize, code: u32, first: u32, second: u32)
     list[at] = code;
     list[at + 1] = first;
     list[at + 2] = second;
+}
+
+// The counts after a refusal.
+pub fn refused_with(state: BuilderState, stop: Stop) -> BuilderState
+    ensures { result ≡ refused_with state stop }
+{
+    BuilderState {
+        refused: Some(stop),
+        ..state
+    }
 }
 
 // One entry more in the list under construction: so many actions, values and marks more, and this stack size. No two of the four calls add the same ones, so that

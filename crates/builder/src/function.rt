@@ -20,6 +20,19 @@ pub struct Outer {
     pub size: u32,
 }
 
+// The counts where a function's list begins: the list before waits.
+pub fn begun(state: BuilderState) -> BuilderState
+    requires { state.size + state.sizes < 10000 }
+    ensures { result ≡ begun state }
+{
+    BuilderState {
+        size: 0,
+        sizes: state.sizes + state.size,
+        base: state.top,
+        ..state
+    }
+}
+
 impl CodeBuilder<'_> {
     pub fn begin_function(&mut self) -> Outer
         ensures keeps { Keeps self.old self.new }
@@ -31,9 +44,7 @@ impl CodeBuilder<'_> {
             base: self.state.base,
             size: self.state.size,
         };
-        self.state.sizes += self.state.size;
-        self.state.size = 0;
-        self.state.base = self.state.top;
+        self.state = begun(self.state);
         outer
     }
 

@@ -44,7 +44,7 @@ use Rattle.tree.specs.declared.Trees.{Trees}
 use Rattle.tree.specs.Trees.{trees, rec_of, node_of, element_of, meant, counts_of}
 use Rattle.tree.specs.Handle.{file_of, parts_of}
 use Rattle.tree.specs.Within.{live, constant_named, record_named, Within, IsNode, IsList, meanings_at, kid_at, list_at}
-use Rattle.tree.proofs.Nodes.{is_node, trees_more, trees_none}
+use Rattle.tree.proofs.Nodes.{is_node, trees_more, trees_none, name_bytes}
 use Rattle.tree.proofs.Meanings.{kid_zero, params_are, labelled_less}
 use Rattle.tree.proofs.Meanings as tree-meanings
 use Rattle.tree.proofs.Counting.{element_is}
@@ -217,10 +217,6 @@ pub some_labels : (F : List ℕ) (p : Part) (first : ℕ) → (labels_of_forest 
 some_labels F p first z = has_label_is first (list_at F p 0) ∙ lt-ltb 0 (labels_of_forest (list_at F p 0)) (omega arith)
 
 -- a function
-name_at : (t : Bool) (s : Str) → get_or (cond t none (some s)) [] ≡ cond t [] s
-name_at true s = refl
-name_at false s = refl
-
 delta_at : (name : Str) (g m : ℕ) (ps : List Param) (t : Bool) → define_delta (header name g m ps t) ≡ name_delta name
 delta_at name g m ps true = refl
 delta_at name g m ps false = refl
@@ -228,7 +224,7 @@ delta_at name g m ps false = refl
 module _ {F : List ℕ} {l : Layout} {p : Part} {t : Node Part} (i : IsNode F l p t) {n g m : ℕ} (e : t.root ≡ kind.Expr (expr-kind.Function n g m)) where
   pub function_at : (d : Bool) → (kid_at F p 0).gen_expr d ≡ define_function (header_in F t.number) (gen_statements no_loop (list_at F t.children 0))
   function_at d =
-      expr_at i d e ∙ rw (name_at (eqb n 0) (string_at F (layout_of F) (n - 1)), list_law 1 (trees F t.children), params_are (list 1 (trees F t.children)), ← i.function_header n g m e)
+      expr_at i d e ∙ rw (name_bytes (eqb n 0) (string_at F (layout_of F) (n - 1)), list_law 1 (trees F t.children), params_are (list 1 (trees F t.children)), ← i.function_header n g m e)
 
   pub function_size : (up : ℕ) → ((z : ℕ) → moved (name_delta (cond (eqb n 0) [] (string_at F (layout_of F) (n - 1)))) z ≡ z + up) → (z : ℕ) → moved (define_delta (header_in F t.number)) z ≡ z + up
   function_size up h z = rw (i.function_header n g m e, delta_at (cond (eqb n 0) [] (string_at F (layout_of F) (n - 1))) g m (params_of (list 1 (trees F t.children))) (leb g 1)) (h z)

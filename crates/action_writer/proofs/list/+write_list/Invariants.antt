@@ -9,5 +9,5 @@ abbrev pub invariant-loop-e : goal.invariant-loop-e
 invariant-loop-e l = record {
   same_script : l.w.script ≡ l.initial.w.script;
   same_output : l.w.output.ghost_name ≡ l.initial.w.output.ghost_name;
-  building : Building l.initial.w.script.bytes.now l.initial.w.script.layout l.list.now l.tables.sizes l.tables.offsets l.j l.initial.w.output.now l.initial.w.at l.w.output.now l.e l.w.at l.begun;
+  building : Building l.initial.w.script.bytes.now l.initial.w.script.layout l.list l.tables.sizes l.tables.offsets l.j l.initial.w.output.now l.initial.w.at l.w.output.now l.e l.w.at l.begun;
 }
