@@ -42,7 +42,7 @@ impl Writer<'_> {
         }
     }
 
-    // A value with its type, by the words of its entry.
+    // A value with its type, by the words of its entry. The type is a number, the byte that is written first.
     #[tactic(auto, using(crate::proofs::Writes::writing), unfolding(crate::specs::Data::value_data))]
     pub fn value(&mut self, kind: u8, entry: Entry)
         requires { let s = self.old.script in HasRoom self.old (value_data s.bytes.now s.layout kind entry.first entry.second) }

@@ -15,7 +15,7 @@ use hir::{
 use script_records::kind::Kind;
 use script_records::layout::Row;
 
-// A word in two's complement: the library's `cast_signed` under the definition's name. `leaves::word_of` is the way back.
+// A word in two's complement: the library's `cast_signed` under the definition's name.
 #[tactic(auto, using(crate::proofs::DecodeLaws::cast_is_signed))]
 pub fn to_signed(w: u32) -> i32
     ensures { result ≡ signed w }

@@ -36,7 +36,8 @@ pub fn count_lists(list: &[u32]) -> usize
     }
 }
 
-// The entry after the list at place j of the finishing order, in a slice of which no more is known than its length.
+// The entry after the list at place j of the finishing order, in a slice of which no more is known than its length. That a place lies in the area is asked of each
+// caller: a type for places would be made at each turn of the loops that count them.
 pub fn list_end(list: &[u32], j: usize) -> usize
     requires in_bounds { 16384 ≤ length list.now }
     requires j_bound { j < 1024 }
@@ -72,7 +73,7 @@ impl<'a> Lists<'a> {
         }
     }
 
-    // The same of these lists. The place is a method's one argument: the loops over all lists count it, and nothing goes with it.
+    // The same of these lists, each by one call. The place is a method's one argument: the loops over all lists count it, and nothing goes with it.
     pub fn end(&self, j: usize) -> usize
         requires { j < 1024 }
         ensures { result ≡ end_of self.now.list.now j }
