@@ -43,7 +43,8 @@ fn passes(script: &ScriptFile, e: usize, lp: &Loop) -> Option<usize>
     (row.kind == Kind::List as u32).then_some(1)
 }
 
-// Whether the last tree is passed on the way down in fewer than so many steps.
+// Whether the last tree is passed on the way down in fewer than so many steps. Inlined, as `is_quiet`, so that a loop over a row need not write each tree to memory.
+#[inline(always)]
 pub fn is_passed(tree: &Trees, lp: &Loop, steps: u32) -> bool
     ensures { result ≡ of_passed (file_of tree.now) tree.now.script.layout steps (is_none lp.now.exit) (is_none lp.now.next) tree.now.part }
 {
@@ -62,6 +63,7 @@ pub fn is_passed(tree: &Trees, lp: &Loop, steps: u32) -> bool
 }
 
 // The same in 128 steps. An expression is a Void or it is not, and a Break has one record.
+#[inline(always)]
 pub fn is_quiet(tree: &Trees, lp: &Loop) -> bool
     ensures { result ≡ of_passed (file_of tree.now) tree.now.script.layout 128 (is_none lp.now.exit) (is_none lp.now.next) tree.now.part }
 {
