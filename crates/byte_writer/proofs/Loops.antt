@@ -1,12 +1,15 @@
 -- The loops that write a number and a pool: what is left of it, written from here on, gives the whole.
-use Prim.Native.Nat.{ℕ, suc, ◌+◌, ◌-◌, ◌<◌, ◌/◌, ◌%◌}
-use mathlib.Core.Path.{◌≡◌, ◌∙◌}
-use mathlib.Core.List.{List, [], ◌∷◌, ◌++◌}
+use Prim.Native.Nat.{ℕ, suc, ◌+◌, ◌-◌, ◌<◌, ◌≤◌, ◌/◌, ◌%◌}
+use mathlib.Core.Path.{◌≡◌, ap, ◌∙◌}
+use mathlib.Core.List.{List, [], ◌∷◌, ◌++◌, append_assoc, append-nil}
 use native.Mathlib.Omega.{arith}
-use lib.ListN.{length, set, length-set, length-append}
+use lib.ListN.{length, set, take, length-set, length-append}
+use borrow.Rule.Slice.PartMut.{put_mid}
+use Rattle.std.proofs.lemmas.List.{take_all, take_more_set}
 use Rattle.action_format.specs.Bytes.{word}
+use Rattle.action_format.proofs.Readers.{word_length}
 use Rattle.byte_writer.specs.Written.{written_at, Room, Wrote}
-use Rattle.byte_writer.proofs.Writes.{written_append}
+use Rattle.byte_writer.proofs.Writes.{written_append, written_long, part_is}
 
 -- bs was to be written into o₀ at `at`; into o, from next on, rest is to be
 pub record Left (o₀ : List ℕ) (at : ℕ) (bs o : List ℕ) (next : ℕ) (rest : List ℕ) : Type 0 where
@@ -32,16 +35,24 @@ left_write {o = o} {next = next} {x = x} {rest = rest} i d = record {
 pub left_room : {o₀ bs o : List ℕ} {at next : ℕ} (x rest : List ℕ) → Left o₀ at bs o next (x ++ rest) → Room o₀ at bs → Room o next x
 left_room x rest i h = omega (arith, i.place, i.long, length-append x rest)
 
--- a number of k bytes, the first i of which are written
+-- a number of k bytes, the first i of which stand in xs
 
-module _ {o₀ bs o : List ℕ} {at k : ℕ} (i rest : ℕ) (v : Left o₀ at bs o (at + i) (word (k - i) rest)) where
-  pub number_next : i < k → Left o₀ at bs (set o (at + i) (rest % 256)) (at + (i + 1)) (word (k - (i + 1)) (rest / 256))
+module _ (xs : List ℕ) {k : ℕ} (i rest n : ℕ) (long : length xs ≡ k) (done : take i xs ++ word (k - i) rest ≡ word k n) where
+  pub number_next : i < k → take (i + 1) (set xs i (rest % 256)) ++ word (k - (i + 1)) (rest / 256) ≡ word k n
   unfolding word
   number_next h =
       let e : k - i ≡ suc (k - (i + 1)) = omega arith in
-      let f : at + (i + 1) ≡ (at + i) + 1 = omega arith in
-      rw f (left_next (rw e at v))
+      rw (take_more_set xs i (rest % 256) (omega (arith, long)), append_assoc (take i xs) (rest % 256 ∷ []) (word (k - (i + 1)) (rest / 256))) (rw e at done)
 
-pub number_done : {o₀ bs o : List ℕ} {at : ℕ} (k rest : ℕ) → Left o₀ at bs o (at + k) (word (k - k) rest) → Wrote o₀ at bs (at + k) o
-unfolding word
-number_done k rest v = let e : k - k ≡ 0 = omega arith in left_done (rw e at v)
+  number_is : k ≤ i → xs ≡ word k n
+  unfolding word
+  number_is h =
+      let e : k - i ≡ 0 = omega arith in
+      rw (e, take_all i xs (omega (arith, long)), append-nil) at done
+
+  pub number_done : (o : List ℕ) (at : ℕ) → k ≤ i → Room o at (word k n) → Wrote o at (word k n) (at + k) (put_mid at (at + k - at) o xs)
+  number_done o at h r =
+      let e : put_mid at (at + k - at) o xs ≡ written_at o at (word k n) =
+      let p : put_mid at (at + length (word k n) - at) o (word k n) ≡ written_at o at (word k n) = part_is o at (word k n) r in
+      rw (number_is h) (rw (word_length k n) at p) in
+      record { after = rw (word_length k n); output = e; long = ap length e ∙ written_long o at (word k n) }

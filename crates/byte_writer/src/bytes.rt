@@ -17,17 +17,18 @@ impl Writer<'_> {
     }
 
     // A number in k bytes, least significant first. What other methods call k is the number of a record or a list: one argument, and no group.
+    // Not `to_le_bytes`: k may be more than the bytes of a u32, and a caller is asked no more than before.
     pub fn word(&mut self, k: usize, n: u32)
         requires { HasRoom self.old (word k n) }
         ensures { Writes self.old (word k n) self.new }
     {
-        let at = self.at;
+        let end = self.at + k;
         let mut rest = n;
-        for i in 0..k {
-            self.output[at + i] = (rest % 256) as u8;
+        for byte in &mut self.output[self.at..end] {
+            *byte = (rest % 256) as u8;
             rest /= 256;
         }
-        self.at = at + k;
+        self.at = end;
     }
 
     fn part(&mut self, bytes: &[u8])

@@ -49,13 +49,13 @@ fn header_code(f: &Function) -> u32
     }
 }
 
-// The marks as bits, the first one lowest.
+// The marks as bits, the first one lowest. A loop and no `fold`: only the turns so far say that the sum fits, which an invariant can tell and a closure cannot.
 fn marks_word(marks: [bool; 9]) -> u32
     ensures { result ≡ marks_word marks }
 {
     let mut word = 0;
-    for i in (0..9).rev() {
-        word = 2 * word + u32::from(marks[i]);
+    for mark in marks.iter().rev() {
+        word = 2 * word + u32::from(*mark);
     }
     word
 }

@@ -8,7 +8,8 @@ use crate::Writer;
 use slice_words::{Entry, value};
 
 impl Writer<'_> {
-    // What follows the type of a value. The type is a number, the byte of the format that has just been written.
+    // What follows the type of a value. The type is a number, the byte of the format that has just been written:
+    // an enum of them would be turned into a byte, or made of one, at each of its uses (`slice_words::value`).
     #[tactic(auto, using(crate::proofs::Writes::writing), unfolding(crate::specs::Data::operand_data))]
     fn operand(&mut self, kind: u8, entry: Entry)
         requires { let s = self.old.script in HasRoom self.old (operand_data s.bytes.now s.layout kind entry.first entry.second) }
@@ -42,7 +43,8 @@ impl Writer<'_> {
         }
     }
 
-    // A value with its type, by the words of its entry. The type is a number, the byte that is written first.
+    // A value with its type, by the words of its entry. The type is a number, the byte that is written first:
+    // an enum of them would be turned into a byte, or made of one, at each of its uses (`slice_words::value`).
     #[tactic(auto, using(crate::proofs::Writes::writing), unfolding(crate::specs::Data::value_data))]
     pub fn value(&mut self, kind: u8, entry: Entry)
         requires { let s = self.old.script in HasRoom self.old (value_data s.bytes.now s.layout kind entry.first entry.second) }

@@ -8,7 +8,7 @@ use std::io::Write;
 use std::{fmt, io};
 use text_lines::split_once;
 
-const DEFINE_FUNCTION2: u8 = 0x8e;
+const DEFINE_FUNCTION_2: u8 = code::DEFINE_FUNCTION_2 as u8;
 
 // A function's name, and its registers if it has some.
 #[derive(Clone, Copy)]
@@ -196,7 +196,7 @@ impl Source for Actions<'_> {
         let name = record.string();
         record.short();
         let row = match code {
-            DEFINE_FUNCTION2 => Row {
+            DEFINE_FUNCTION_2 => Row {
                 b: u32::from(record.byte()),
                 c: u32::from(record.short()),
                 ..Row::default()
@@ -220,7 +220,7 @@ impl Source for Actions<'_> {
         record.short();
         record.string();
         let count = record.short();
-        if code == DEFINE_FUNCTION2 {
+        if code == DEFINE_FUNCTION_2 {
             record.byte();
             record.short();
         }

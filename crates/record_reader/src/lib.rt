@@ -61,7 +61,7 @@ struct Content {
     fits: bool,
 }
 
-// Whether the code alone is a record: that of an action without operands, but Call.
+// Whether the code alone is a record: that of an action without operands, but Call. A code is a byte that is read and a word that is left (`codes`).
 fn is_short(code: u8) -> bool
     ensures { result ≡ is_short code }
 {
@@ -82,7 +82,7 @@ fn is_short(code: u8) -> bool
 }
 
 // The record at `at` with this code and the data `d`; `pool` is the pool's count of strings. The two numbers say different things of it, so no struct holds them. Each arm is one
-// reader of data, by its name: a table of closures would say the same behind a search.
+// reader of data, by its name: a table of closures would say the same behind a search. A code is a byte that is read and a word that is left (`codes`).
 #[tactic(auto, unfolding(crate::specs::Shape::data_reader))]
 fn with_data(d: &[u8], code: u8, at: usize, pool: usize) -> Option<Content>
     requires { at + 3 < 2 ^ 64 }
@@ -93,12 +93,12 @@ fn with_data(d: &[u8], code: u8, at: usize, pool: usize) -> Option<Content>
         codes::STORE_REGISTER => register(d),
         codes::CONSTANT_POOL => pool_record(d),
         codes::GOTO_LABEL => label(d, at),
-        codes::DEFINE_FUNCTION2 => function2(d),
+        codes::DEFINE_FUNCTION_2 => function2(d),
         codes::PUSH => push(d, pool),
         codes::JUMP | codes::IF => branch(d, code),
         codes::DEFINE_FUNCTION => function(d),
         codes::CALL => call(d),
-        codes::GOTO_FRAME2 => play(d),
+        codes::GOTO_FRAME_2 => play(d),
         _ => None,
     }
 }

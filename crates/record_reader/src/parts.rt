@@ -18,6 +18,7 @@ pub fn byte(b: &[u8]) -> Option<(u8, &[u8])>
     Some((*n, rest))
 }
 
+// This and `long` are two types of number, each by one pattern and one call.
 pub fn word(b: &[u8]) -> Option<(u16, &[u8])>
     ensures { taken result ≡ word_reader 2 b.now }
 {

@@ -10,6 +10,7 @@ ghost use Rattle.record_reader.specs.Steps.{whole, content_of};
 use crate::parts::{Name, byte, flag, many, string, whole, word};
 use crate::{Content, Kind, codes};
 
+// A code is a byte that is read and a word that is left (`codes`).
 fn plain(code: u8, first: usize, fits: bool) -> Content
     ensures kind { result.kind ≡ Kind.Plain code first }
     ensures fits { result.fits ≡ fits }
@@ -49,7 +50,7 @@ pub fn play(d: &[u8]) -> Option<Content>
     ensures { (at pool : ℕ) → result ≡ content_of at pool (whole (read_play d.now)) }
 {
     let p = whole(flag(d))?;
-    Some(plain(codes::GOTO_FRAME2, usize::from(p), true))
+    Some(plain(codes::GOTO_FRAME_2, usize::from(p), true))
 }
 
 // The string of a record at `at` stands three bytes further. A label's entry has the place of its one string, a pool's the count of its strings: the two share `whole` alone.
@@ -61,7 +62,7 @@ pub fn label(d: &[u8], at: usize) -> Option<Content>
     Some(plain(codes::GOTO_LABEL, at + 3, fits))
 }
 
-// A Jump or an If, as its code says.
+// A Jump or an If, as its code says. A code is a byte that is read and a word that is left (`codes`).
 pub fn branch(d: &[u8], code: u8) -> Option<Content>
     ensures { (b : Branching) (at pool : ℕ) → code ≡ branch_code b → result ≡ content_of at pool (whole (read_branch b d.now)) }
 {

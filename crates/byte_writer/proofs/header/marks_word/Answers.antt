@@ -1,12 +1,18 @@
-use Rattle.std.proofs.Common.{◌≡◌, ◌-◌, ◌∙◌, false, get_or, arith}
-use Rattle.byte_writer.proofs.Marks.{from_is, bits_fit, bits_more, bits_all}
+use Rattle.std.proofs.Common.{arith}
+use Rattle.byte_writer.proofs.Marks.{marks_start, marks_fit, marks_next, marks_done}
 use Rattle.byte_writer.proofs.header.marks_word.Goals as goal
 
+pub loop-mark-init : goal.loop-mark-init
+loop-mark-init c = rw (c.into_iter-mark-iterator.ensures.into_iter_gives, c.rev-mark-items.ensures.source, c.iter.ensures.rest) (marks_start c.args.marks (omega arith))
+
 pub overflow_mul-word : goal.overflow_mul-word
-overflow_mul-word c = omega (arith, c.loop-i.invariant, bits_fit c.args.marks c.loop-i.i)
+overflow_mul-word c = omega (arith, marks_fit _ _ c.loop-mark.invariant c.in-Some.ensures.steps)
 
 pub overflow_add-word : goal.overflow_add-word
-overflow_add-word c = omega (arith, c.loop-i.invariant, c.from.ensures, bits_fit c.args.marks c.loop-i.i, bits_fit c.args.marks (c.loop-i.i - 1), bits_more c.args.marks c.loop-i.i (omega arith) (omega arith), from_is (get_or c.args.marks (c.loop-i.i - 1) false))
+overflow_add-word c = omega (arith, c.from.ensures, marks_fit _ _ c.loop-mark.invariant c.in-Some.ensures.steps)
+
+pub loop-mark-preserved : goal.loop-mark-preserved
+loop-mark-preserved c = rw c.from.ensures (marks_next _ _ c.loop-mark.invariant c.in-Some.ensures.steps)
 
 pub returns : goal.returns
-returns c = let e : c.loop-i.i ≡ 0 = omega arith in rw e at c.loop-i.invariant ∙ bits_all c.args.marks
+returns c = marks_done c.loop-mark.invariant c.in-None.ensures.steps.0
