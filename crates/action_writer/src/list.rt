@@ -18,8 +18,7 @@ fn write_first(w: &mut Writer, entry: Entry)
     ensures { let s = w.old.script in Writes w.old (framed 150 (value_data s.bytes.now s.layout (entry.code % 16) entry.first entry.second)) w.new }
 {
     let begun = w.begin();
-    w.value((entry.code % 16) as u8, entry);
-    w.frame(begun, code::PUSH);
+    write_later(w, begun, entry);
 }
 
 // A later value of the Push whose record began there: the record's length is written anew.

@@ -80,6 +80,7 @@ impl<'a> From<&'a [u32]> for Lists<'a> {
     }
 }
 
+// The resolver's functions ask for a whole slice; here what does not lie in it is none.
 impl<'a> Lists<'a> {
     // The entry after the k-th list that finished, from 0.
     fn end(self, k: usize) -> usize {

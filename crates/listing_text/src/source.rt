@@ -3,11 +3,12 @@ use crate::text::Text;
 use decode::{function_of, record_of};
 use script_records::layout::{Row, ScriptFile};
 use script_records::part::Part;
-use slice_words::param_of;
+use slice_words::{code, param_of};
 use std::io::Write;
 use std::{fmt, io};
 use text_lines::split_once;
 
+// Its code, as the byte that begins a record.
 const DEFINE_FUNCTION_2: u8 = code::DEFINE_FUNCTION_2 as u8;
 
 // A function's name, and its registers if it has some.
@@ -65,7 +66,7 @@ pub trait Source {
 #[derive(Clone, Copy)]
 pub struct Actions<'a>(pub &'a [u8]);
 
-// What is left of some bytes. Behind their end there are zeros.
+// What is left of some bytes. Behind their end there are zeros. Not record_reader's parts, which are None behind the end: here the bytes were read before.
 #[derive(Drop)]
 struct Record<'a>(&'a [u8]);
 

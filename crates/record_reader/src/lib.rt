@@ -18,7 +18,7 @@ mod plain;
 mod push;
 pub mod values;
 
-// What a record is: an action whose entry is code, first, 0; or the counts and numbers that its entries are made of.
+// What a record is: an action whose entry is code, first, 0; or the counts and numbers that its entries are made of. Its code is the word of the entry.
 #[derive(Clone, Copy)]
 pub enum Kind {
     Plain { code: u32, first: usize },

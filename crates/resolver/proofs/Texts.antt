@@ -3,15 +3,15 @@ use Prim.Native.Nat.{ℕ, zero, suc, ◌+◌, ◌-◌, ◌*◌, ◌%◌, ◌≤�
 use mathlib.Core.Path.{◌≡◌, refl, sym, ap, ap₂, ◌∙◌}
 use mathlib.Core.Option
 use mathlib.Core.Option.{none, some}
-use mathlib.Core.List.{List, [], ◌∷◌, ◌++◌, map}
+use mathlib.Core.List.{List, [], ◌∷◌, ◌++◌, map, append_assoc, append-nil}
 use mathlib.Core.Bool.{Bool, true, false, not, cond, ◌&&◌}
 use native.Mathlib.Omega.{arith}
 use lib.Dec.{T, ltb, leb, eqb}
 use lib.ListN.{length, get_or, take, drop, length-take, length-drop, length-append}
-use lib.Seq.{drop-cons, get_or-take, get_or-drop}
+use lib.Seq.{take-take}
 use borrow.Author.Tests.{ltb-true, leb-true, eqb-true, eq-eqb, ne_eqb, lt-leb}
 use Rattle.std.specs.Prelude.{Some, None, unwrap_or}
-use Rattle.std.specs.List.{list_any}
+use Rattle.std.specs.List.{list_any, push}
 use Rattle.hir.specs.Hir.{Str}
 use Rattle.hir.specs.declared.Record.{Record}
 use Rattle.hir.specs.declared.Record.TheVariants as kind
@@ -75,42 +75,38 @@ pub texts_small : (F : List ℕ) (rs : List ℕ) → length F ≤ 1048576 →
 texts_small F [] h = (omega arith, refl)
 texts_small F (r ∷ rs) h = let k = texts_small F rs h in (omega (arith, k.0, text_short F r), omega (arith, k.1))
 
-pub record PoolInv (F w : List ℕ) (n i : ℕ) (t : Text) : Type 0 where
-  pub le : i ≤ n
-  pub is : t ≡ texts_of (map (text_in F) (take (n - i) (drop i (pool_in limits01 w))))
+-- of the references xs those of rest are still to come, and t is of the others
+pub record PoolInv (F xs rest : List ℕ) (t : Text) : Type 0 where
+  pub done : List ℕ
+  pub whole : xs ≡ rest ++ done
+  pub is : t ≡ texts_of (map (text_in F) done)
 
-module _ {F w : List ℕ} {n i : ℕ} {t : Text} (v : PoolInv F w n i t) where
-  pub pool_few : {l : Layout} → Ready F l → n ≤ 2048 → Few t
+module _ {F xs rest : List ℕ} {t : Text} (v : PoolInv F xs rest t) where
+  pub pool_few : {l : Layout} → Ready F l → length xs ≤ 2048 → Few t
   pool_few h k =
-      let rs = take (n - i) (drop i (pool_in limits01 w)) in
-      let s = texts_small F rs (accepted_short F h.accepted) in
-      let m : length rs ≤ 2048 = simp length-take (omega arith) in
-      rw v.is (record { small = omega (arith, s.0, s.1); few = omega (arith, s.1) })
+      let s = texts_small F v.done (accepted_short F h.accepted) in
+      let m : length v.done ≤ 2048 = omega (arith, ap length v.whole, length-append rest v.done, k) in
+      rw v.is (record { small = omega (arith, s.0, s.1, m); few = omega (arith, s.1, m) })
 
-pool_at_lem : (w : List ℕ) (j : ℕ) → 16384 ≤ length w → j < 2048 → drop j (pool_in limits01 w) ≡ get_or w (14336 + j) 0 ∷ drop (suc j) (pool_in limits01 w)
-pool_at_lem w j h k =
-    let long : length (pool_in limits01 w) ≡ 2048 = simp (length-take, length-drop) (omega arith) in
-    drop-cons (pool_in limits01 w) j 0 (omega arith)
-    ∙ ap (λ (x : ℕ). x ∷ drop (suc j) (pool_in limits01 w)) (get_or-take 2048 (drop 14336 w) j 0 k ∙ get_or-drop 14336 w j 0)
+  pub pool_again : {front : List ℕ} (r : ℕ) {t' : Text} → rest ≡ push front r → t' ≡ with_text (text_in F r) t → PoolInv F xs front t'
+  pool_again {front} r s e = record {
+    done = r ∷ v.done;
+    whole = v.whole ∙ ap (λ (z : List ℕ). z ++ v.done) s ∙ append_assoc front (r ∷ []) v.done;
+    is = e ∙ ap (with_text (text_in F r)) v.is;
+  }
 
-pool_next : (w : List ℕ) (n j i : ℕ) → i ≡ suc j → i ≤ n → n ≤ 2048 → 16384 ≤ length w →
-    take (n - j) (drop j (pool_in limits01 w)) ≡ get_or w (14336 + j) 0 ∷ take (n - i) (drop i (pool_in limits01 w))
-pool_next w n j i e k m h =
-    let a : n - j ≡ suc (n - i) = omega arith in
-    ap (λ (x : List ℕ). take (n - j) x) (pool_at_lem w j h (omega arith))
-    ∙ ap (λ (x : ℕ). take x (get_or w (14336 + j) 0 ∷ drop (suc j) (pool_in limits01 w))) a
-    ∙ ap (λ (x : ℕ). get_or w (14336 + j) 0 ∷ take (n - i) (drop x (pool_in limits01 w))) (sym e)
+pub pool_done : {F xs : List ℕ} (rest : List ℕ) {t : Text} → PoolInv F xs rest t → length rest ≡ 0 → t ≡ texts_of (map (text_in F) xs)
+pool_done {F} [] v z = v.is ∙ ap (λ (x : List ℕ). texts_of (map (text_in F) x)) (sym v.whole)
+pool_done (x ∷ rest) v z = let e : ⊥ = omega (arith, z) in absurd e
 
-pub pool_again : {F w : List ℕ} {n i : ℕ} {t : Text} → PoolInv F w n i t → {t' : Text} → t' ≡ with_text (text_in F (get_or w (14336 + (i - 1)) 0)) t → 0 < i →
-    16384 ≤ length w → n ≤ 2048 → PoolInv F w n (i - 1) t'
-pool_again {F} {w} {n} {i} v e z h k =
-    record { le = omega (arith, v.le); is = e ∙ rw (v.is, pool_next w n (i - 1) i (omega arith) v.le k h) }
+pub pool_start : (F xs : List ℕ) → PoolInv F xs xs no_text
+pool_start F xs = record { done = []; whole = sym (append-nil xs); is = refl }
 
-pub pool_done : {F w : List ℕ} {n i : ℕ} {t : Text} → PoolInv F w n i t → i ≡ 0 → t ≡ texts_of (map (text_in F) (take n (pool_in limits01 w)))
-pool_done {F} {w} {n} {i} v z = let a : n - 0 ≡ n = omega arith in v.is ∙ rw (z, a)
-
-pub pool_start : (F w : List ℕ) (n : ℕ) {t : Text} → t ≡ no_text → PoolInv F w n n t
-pool_start F w n e = let a : n - n ≡ 0 = omega arith in record { le = omega arith; is = e ∙ rw a }
+-- the first n words of the pool
+pub pool_words : (w : List ℕ) (n : ℕ) → n ≤ 2048 → take (14336 + n - 14336) (drop 14336 w) ≡ take n (pool_in limits01 w)
+pool_words w n h =
+    let e : 14336 + n - 14336 ≡ n = omega arith in
+    rw (e, take-take n 2048 (drop 14336 w) h)
 
 -- the names of parameters, from the last to the first
 

@@ -106,8 +106,8 @@ impl Lists<'_> {
         ensures { result ≡ texts_of (map (text_in self.now.script.bytes.now) (take n (pool_in limits01 self.now.list.now))) }
     {
         let mut t = Text::NONE;
-        for i in (0..n).rev() {
-            t = t.with(text(&self.script, self.list[POOL_AT + i]));
+        for reference in self.list[POOL_AT..POOL_AT + n].iter().rev() {
+            t = t.with(text(&self.script, *reference));
         }
         t
     }
@@ -150,19 +150,12 @@ impl Lists<'_> {
         ensures { result ≡ data_in self.now.script.bytes.now self.now.list.now kind entry.first entry.second }
     {
         match kind {
-            code::GOTO_FRAME => Data::fixed(2),
-            code::STORE_REGISTER => Data::fixed(1),
+            code::GOTO_FRAME | code::JUMP | code::IF | code::REGISTER | code::BOOLEAN => Data::fixed(2),
+            code::STORE_REGISTER | code::GOTO_FRAME_2 | code::NULL | code::UNDEFINED => Data::fixed(1),
             code::CONSTANT_POOL => self.pool_data(entry.first),
             code::GOTO_LABEL => Data::string(text(&self.script, entry.first), 0),
-            code::JUMP => Data::fixed(2),
-            code::IF => Data::fixed(2),
-            code::GOTO_FRAME_2 => Data::fixed(1),
             code::FUNCTION => self.function_data(entry.second),
             code::STRING => Data::string(text(&self.script, entry.first), 1),
-            code::NULL => Data::fixed(1),
-            code::UNDEFINED => Data::fixed(1),
-            code::REGISTER => Data::fixed(2),
-            code::BOOLEAN => Data::fixed(2),
             code::FLOAT => Data::fixed(9),
             code::INTEGER => Data::fixed(5),
             code::CONSTANT => Data::constant(entry.first),

@@ -46,7 +46,7 @@ struct Decoder<'a> {
     ghost bytes_in_bounds: { bytes ≤ length file.now },
 }
 
-// The value of a hex digit.
+// The value of a hex digit. Not `to_digit(16)`, which takes capital letters too.
 fn digit(c: u8) -> Option<u8>
     ensures value { result ≡ hex_value c }
     ensures upper_bound { IfSome result (λ d. d < 16) }
