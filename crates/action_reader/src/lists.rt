@@ -8,7 +8,7 @@ ghost use Rattle.action_reader.specs.Lists.{Ready, Given, SettledAs, EndedAs, Cl
 use crate::places::place_of;
 use crate::walk::Walk;
 use builder::entries::put;
-use slice_words::{ENDS_AT, code};
+use slice_words::{ENDS_AT, code, entry_at};
 
 // Entry `from` moves to `to`, with another first word.
 fn move_as(list: &mut [u32], to: usize, from: usize, first: u32)
@@ -16,26 +16,25 @@ fn move_as(list: &mut [u32], to: usize, from: usize, first: u32)
     requires to_le_from { to ≤ from }
     ensures { list.new ≡ put3 (put3 list.old from 0 0 0) to (get_or list.old (from * 3) 0) first (get_or list.old (from * 3 + 2) 0) }
 {
-    let at = from * 3;
-    let (code, second) = (list[at], list[at + 2]);
+    let entry = entry_at(list, from);
     put(list, from, 0, 0, 0);
-    put(list, to, code, first, second);
+    put(list, to, entry.code, first, entry.second);
 }
 
 impl Walk<'_> {
     // Settles the branches of the present list and moves it to the finished ones. The entry below which it ends, or `None` if a branch leads to no place. The builder moves a list as
-    // it stands; here each entry gets its first word as it moves, and moving afterwards would go over the entries twice. An entry is three words of the slice, which programs
-    // in other languages lend.
+    // it stands; here each entry gets its first word as it moves, and moving afterwards would go over the entries twice.
     pub fn settle_list(&self, list: &mut [u32]) -> Option<usize>
         requires { Ready list.old self.now }
         ensures low_bound { IfSome result (λ n. n ≤ 4096) }
         ensures settled_as { (low xs up : List Entry) (ends : List ℕ) → Given list.old self.now low xs up ends → SettledAs self.now low xs up ends result list.new }
     {
         let positions = &self.table[self.span.first..self.places];
+        // Where the last entry went is the answer, so `low` is counted and not zipped.
         let mut low = self.low;
         for top in self.top..self.span.base {
-            let at = top * 3;
-            let first = place_of(positions, self.at, list[at], list[at + 1])?;
+            let entry = entry_at(list, top);
+            let first = place_of(positions, self.at, entry.code, entry.first)?;
             move_as(list, low, top, first);
             low += 1;
         }

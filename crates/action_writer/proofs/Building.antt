@@ -12,11 +12,11 @@ use Rattle.byte_writer.specs.Data.{frame, framed, value_data, action_bytes}
 use Rattle.byte_writer.specs.Header.{function_bytes}
 use Rattle.byte_writer.specs.declared.Writer.{Writer}
 use Rattle.byte_writer.specs.Writer.{Writes, Frames}
-use Rattle.byte_writer.proofs.Writes.{written_long, wrote_none, wrote_then, written_append, written_over}
+use Rattle.byte_writer.proofs.Writes.{written_long, wrote_none, wrote_then, written_append, written_before, written_over}
 use Rattle.byte_writer.proofs.Frames.{frame_length, framed_length}
-use Rattle.resolver.specs.Walk.{count_of, start_of, end_of}
+use Rattle.resolver.specs.Walk.{start_of, end_of}
 use Rattle.action_writer.specs.Bodies.{body_at, items_from, bytes_of}
-use Rattle.action_writer.specs.Steps.{Joined, Joins, an-action, a-first-value, a-later-value, sort_of, OpenIn, Defines, Acts, Begins, Continues, Step, WritableList, Writable}
+use Rattle.action_writer.specs.Steps.{Joined, Joins, an-action, a-first-value, a-later-value, sort_of, OpenIn, Defines, Acts, Begins, Continues, Step, WritableList}
 
 -- a value written, and the length of the record that began there
 pub later_joins : {w w₁ w₂ : Writer} {begun : ℕ} {v : Bytes} → Writes w v w₁ → Frames w₁ begun 0x96 w₂ → Joins w begun v w₂
@@ -29,6 +29,20 @@ later_joins {w₁ = w₁} {w₂ = w₂} {begun = begun} p q = record {
     long = ap length q.output ∙ written_long w₁.output.now begun (frame 0x96 (w₁.at - (begun + 3))) ∙ p.wrote.long;
   };
 }
+
+-- the first value of a record that has just begun
+pub first_joins : (w : Writer) {w₂ : Writer} (v : Bytes) → Joins (record w { at = w.at + 3 }) w.at v w₂ → Writes w (framed 0x96 v) w₂
+first_joins w {w₂} v q =
+    let n : w₂.at - (w.at + 3) ≡ length v = omega (arith, q.joined.after) in
+    record {
+      same_script = q.same_script;
+      same_output = q.same_output;
+      wrote = record {
+        after = rw (framed_length 0x96 v) (omega (arith, q.joined.after));
+        output = rw n at q.joined.output ∙ rw (frame_length 0x96 (length v)) at (written_before w.output.now w.at (frame 0x96 (length v)) v);
+        long = q.joined.long;
+      };
+    }
 
 -- the sort of an entry by the tests of its code
 

@@ -3,7 +3,7 @@ use Prim.Native.Nat.{ℕ, suc, ◌+◌, ◌-◌, ◌<◌, ◌≤◌, ◌/◌, �
 use mathlib.Core.Path.{◌≡◌, ap, ◌∙◌}
 use mathlib.Core.List.{List, [], ◌∷◌, ◌++◌, append_assoc, append-nil}
 use native.Mathlib.Omega.{arith}
-use lib.ListN.{length, set, take, length-set, length-append}
+use lib.ListN.{length, set, take, length-append}
 use borrow.Rule.Slice.PartMut.{put_mid}
 use Rattle.std.proofs.lemmas.List.{take_all, take_more_set}
 use Rattle.action_format.specs.Bytes.{word}
@@ -16,10 +16,6 @@ pub record Left (o₀ : List ℕ) (at : ℕ) (bs o : List ℕ) (next : ℕ) (res
   pub same : written_at o next rest ≡ written_at o₀ at bs
   pub long : length o ≡ length o₀
   pub place : next + length rest ≡ at + length bs
-
-left_next : {o₀ bs o : List ℕ} {at next b : ℕ} {rest : List ℕ} → Left o₀ at bs o next (b ∷ rest) → Left o₀ at bs (set o next b) (next + 1) rest
-unfolding written_at
-left_next {o = o} {next = next} {b = b} i = record { same = i.same; long = length-set o next b ∙ i.long; place = omega (arith, i.place) }
 
 pub left_done : {o₀ bs o : List ℕ} {at next : ℕ} → Left o₀ at bs o next [] → Wrote o₀ at bs next o
 unfolding written_at

@@ -101,7 +101,7 @@ impl fmt::Display for Target {
     }
 }
 
-// The rows of a function's parameters: the list before its body.
+// The rows of a function's parameters: the list before its body. A part and no `Trees`, which only a file that was accepted has: no contract says so here.
 fn parameter_rows(script: &ScriptFile, reference: usize) -> Part {
     let row = script.row_at(reference);
     let body = script.last_tree(Part {

@@ -124,7 +124,7 @@ impl Lists<'_> {
         }
     }
 
-    // The header of the function whose record has number k, without its body.
+    // The header of the function whose record has number k, without its body. The writer finds the parameters likewise, by another fact of the record.
     fn function_data(&self, k: u32) -> Data
         requires { T (names_function self.now.script.bytes.now k) }
         ensures { result ≡ function_data self.now.script.bytes.now k }
@@ -150,8 +150,11 @@ impl Lists<'_> {
         ensures { result ≡ data_in self.now.script.bytes.now self.now.list.now kind entry.first entry.second }
     {
         match kind {
-            code::GOTO_FRAME | code::JUMP | code::IF | code::REGISTER | code::BOOLEAN => Data::fixed(2),
-            code::STORE_REGISTER | code::GOTO_FRAME_2 | code::NULL | code::UNDEFINED => Data::fixed(1),
+            code::GOTO_FRAME | code::JUMP | code::IF | code::REGISTER | code::BOOLEAN =>
+                Data::fixed(2),
+            code::STORE_REGISTER | code::GOTO_FRAME_2 | code::NULL | code::UNDEFINED => Data::fixed(
+                1,
+            ),
             code::CONSTANT_POOL => self.pool_data(entry.first),
             code::GOTO_LABEL => Data::string(text(&self.script, entry.first), 0),
             code::FUNCTION => self.function_data(entry.second),

@@ -1,25 +1,17 @@
-use Rattle.std.proofs.Common.{◌%◌}
-use Rattle.script_records.specs.declared.layout.ScriptFile.{ScriptFile}
+use Rattle.std.proofs.Common.{◌%◌, arith}
 use Rattle.byte_writer.specs.Data.{value_data}
-use Rattle.byte_writer.proofs.Frames.{has_frame, frame_fits, framed_done}
+use Rattle.byte_writer.proofs.Frames.{framed_length}
+use Rattle.action_writer.proofs.Building.{first_joins}
 use Rattle.action_writer.proofs.list.write_first.Goals as goal
 
 pub begin-begun-requires : goal.begin-begun-requires
-begin-begun-requires c =
-    let s = c.args.w.now.script in
-    (has_frame c.args.w.now 150 (value_data s.bytes.now s.layout (c.args.entry.code % 16) c.args.entry.first c.args.entry.second) c.requires.room).0
+begin-begun-requires c = omega (arith, c.requires.room, framed_length 150 (value_data c.args.w.now.script.bytes.now c.args.w.now.script.layout (c.args.entry.code % 16) c.args.entry.first c.args.entry.second))
 
-pub value-requires : goal.value-requires
-value-requires c =
-    let s = c.args.w.now.script in
-    rw c.begin-begun.ensures.room_left (has_frame c.args.w.now 150 (value_data s.bytes.now s.layout (c.args.entry.code % 16) c.args.entry.first c.args.entry.second) c.requires.room).1
-
-pub frame-requires-clause-in_bounds : goal.frame-requires-clause-in_bounds
-frame-requires-clause-in_bounds c =
-    (frame_fits c.args.w.now c.begin-begun.ensures.room_left (λ (s : ScriptFile). value_data s.bytes.now s.layout (c.args.entry.code % 16) c.args.entry.first c.args.entry.second)
-    c.value.ensures 150 c.requires.room c.requires.short).1.0
+pub write_later-requires : goal.write_later-requires
+write_later-requires c =
+    let f = framed_length 150 (value_data c.args.w.now.script.bytes.now c.args.w.now.script.layout (c.args.entry.code % 16) c.args.entry.first c.args.entry.second) in
+    rw (c.begin-begun.ensures.room_left, c.begin-begun.ensures.begun)
+    (record { room = omega (arith, c.requires.room, f); begun_bound = omega arith; short = omega (arith, c.requires.short) })
 
 pub returns : goal.returns
-returns c =
-    framed_done c.args.w.now c.begin-begun.ensures.room_left (λ (s : ScriptFile). value_data s.bytes.now s.layout (c.args.entry.code % 16) c.args.entry.first c.args.entry.second)
-    c.value.ensures 150 (rw c.begin-begun.ensures.begun at c.frame.ensures)
+returns c = first_joins c.args.w.now _ (rw (c.begin-begun.ensures.room_left, c.begin-begun.ensures.begun) at c.write_later.ensures)

@@ -6,7 +6,7 @@ use Rattle.resolver.proofs.lists.Lists.pool_text.Goals as goal
 pub loop-reference-init : goal.loop-reference-init
 loop-reference-init c =
     rw (c.into_iter-reference-iterator.ensures.into_iter_gives, c.rev-reference-items.ensures.source, c.iter.ensures.rest, pool_words c.args.self.now.list.now c.args.n c.requires)
-        (pool_start c.args.self.now.script.bytes.now _)
+    (pool_start c.args.self.now.script.bytes.now _)
 
 pub with-t-requires-clause-few : goal.with-t-requires-clause-few
 with-t-requires-clause-few c = pool_few c.loop-reference.invariant c.args.self.now.ready (simp length-take (omega (arith, c.requires)))
