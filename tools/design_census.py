@@ -80,7 +80,7 @@ def one_line(text):
 
 def fns_of(path, text):
     found = []
-    pattern = re.compile(r'^( *)(pub )?(?:extern "C" )?fn (\w+)(<[^(]*>)?\(', re.M)
+    pattern = re.compile(r'^( *)(pub(?:\([a-z]+\))? )?(?:extern "C" )?fn (\w+)(<[^{;]*?>)?\(', re.M)
     for m in pattern.finditer(text):
         f = Fn()
         f.path, f.name, f.indent, f.public = path, m.group(3), m.group(1), bool(m.group(2))
@@ -113,7 +113,7 @@ def fns_of(path, text):
 
 def types_of(path, text):
     found = []
-    for m in re.finditer(r'^(?:pub )?(struct|enum) (\w+)(?:<[^>]*>)? \{\n(.*?)^\}', text, re.M | re.S):
+    for m in re.finditer(r'^(?:pub(?:\([a-z]+\))? )?(struct|enum) (\w+)(?:<[^>]*>)? \{\n(.*?)^\}', text, re.M | re.S):
         t = Type()
         t.path, t.sort, t.name = path, m.group(1), m.group(2)
         t.parts = split_top(one_line(m.group(3)), ',')
@@ -584,10 +584,10 @@ AREAS = {'12288': 'labels', '13311': 'list ends', '13312': 'list ends', '14336':
 def point6():
     found = []
     for p in PATHS:
-        for m in re.finditer(r'^(?:pub )?const (\w+): (\[.*?\]) =', TEXTS[p], re.M):
+        for m in re.finditer(r'^(?:pub(?:\([a-z]+\))? )?const (\w+): (\[.*?\]) =', TEXTS[p], re.M):
             padded = '\\0' in TEXTS[p][m.end():m.end() + 120]
             found.append((f'{short(p)}: {m.group(1)}', f'table {m.group(2)}' + (', rows filled up with zeros' if padded else '')))
-        for m in re.finditer(r'^(?:pub )?const (\w+): u?\w+ = (\d+);', TEXTS[p], re.M):
+        for m in re.finditer(r'^(?:pub(?:\([a-z]+\))? )?const (\w+): u?\w+ = (\d+);', TEXTS[p], re.M):
             found.append((f'{short(p)}: {m.group(1)}', f'length or position {m.group(2)} of a table, beside it'))
     for t in TYPES:
         parts = [x.replace('pub ', '') for x in t.parts]
