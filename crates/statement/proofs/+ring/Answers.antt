@@ -1,5 +1,4 @@
--- Tried without these answers: the check of the ring's 305 goals had not ended after ten minutes, and with them it takes one. Each goal has names of its own, so
--- that goals with one proof have an answer each; what they share is a lemma, as `in_kids` for a call with a node's children.
+-- Each goal has names of its own, so that goals with one proof have an answer each; what they share is a lemma.
 use Rattle.statement.proofs.Arms.{statements_arm, unhoisted_arm, field_arm, test_arm, block_arm, local_arm, local_none_arm, no_values_arm, values_arm, switch_arm, switch_cases_arm, no_tests_arm, tests_arm, while_arm, for_in_arm, for_loop_arm, ends_arm, if_both_arm, if_one_arm, void_arm, trivial_arm, trivial_not_arm, trivial_assign_arm, assign_arm, and_arm, or_arm, bit_not_arm, not_arm, minus_arm, adjust_arm, kept_arm, delete_arm, ternary_arm, array_arm, object_arm, copy_arm, goto_label_arm, goto_frame_arm, goto_arm, drag_arm, drag_within_arm, get_property_arm, set_property_arm, call_arm, new_arm, direct_arm, object_access_arm}
 use borrow.Author.Rules.{rules}
 use borrow.Author.Tests.{not-true, lt-ltb, eqb-false}
