@@ -30,7 +30,7 @@ impl Walk<'_> {
         ensures settled_as { (low xs up : List Entry) (ends : List ℕ) → Given list.old self.now low xs up ends → SettledAs self.now low xs up ends result list.new }
     {
         let positions = &self.table[self.span.first..self.places];
-        // Where the last entry went is the answer, so `low` is counted and not zipped.
+        // The entry after the last that moved is the answer, so `low` is counted and not zipped.
         let mut low = self.low;
         for top in self.top..self.span.base {
             let entry = entry_at(list, top);

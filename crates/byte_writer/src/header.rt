@@ -123,7 +123,7 @@ impl Writer<'_> {
     }
 
     // The header of the function whose record has number k, and whose body has so many bytes. The resolver finds the parameters likewise, by another fact
-    // of the record: a function of both would ask its caller for what makes `kids` trees, and be no more than that one struct.
+    // of the record: a function of both would be given the row and the fact that makes `kids` trees, and write no more than these two structs.
     pub fn header(&mut self, k: usize, size: u32)
         requires function { IsFunction self.old.script.bytes.now self.old.script.layout k }
         requires short { length (function_data self.old.script.bytes.now self.old.script.layout k size) ≤ 65535 }

@@ -10,8 +10,8 @@ use crate::walk::{actions_added, word_of};
 use pcode::{ByteOffset, Label, Position};
 use slice_words::{code, entry_at};
 
-// From the byte after the branch's record, in 16 bits of two's complement. By hand and not by `wrapping_sub`: of a target more than 65,536 bytes before, where that
-// would wrap, the offset is to be 0.
+// From the byte after the branch's record, in 16 bits of two's complement. By hand and not by `wrapping_sub`: of a target more than 65,536
+// bytes back the offset is 0 by its definition, where that would give another number.
 fn offset_to(after: ByteOffset, target: ByteOffset) -> u32
     ensures { result ≡ offset after.0 target.0 }
 {

@@ -73,7 +73,8 @@ impl<'a> Lists<'a> {
         }
     }
 
-    // The writer has a slice and no `Lists`, so the functions above stand by themselves. The place is a method's one argument: the loops over all lists count it, and nothing goes with it.
+    // The writer has a slice and no `Lists`, so the functions above stand by themselves. The place is a method's one argument: the loops over all
+    // lists count it, and nothing goes with it.
     pub fn end(&self, j: usize) -> usize
         requires { j < 1024 }
         ensures { result ≡ end_of self.now.list.now j }
