@@ -45,7 +45,8 @@ impl Writer<'_> {
         }
     }
 
-    // The data of an action that neither pushes nor has a body.
+    // The data of an action that neither pushes nor has a body. An arm writes what its code has: a table of the calls would need
+    // the same line for each code.
     #[tactic(auto, using(crate::proofs::Writes::writing), unfolding(crate::specs::Data::action_data))]
     fn data(&mut self, list: &[u32], entry: Entry, offset: u32)
         requires first_in_bounds { entry.code ≡ 136 → pool_at01 + entry.first ≤ length list.now }

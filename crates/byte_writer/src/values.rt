@@ -8,7 +8,8 @@ use crate::Writer;
 use slice_words::{Entry, value};
 
 impl Writer<'_> {
-    // What follows the type of a value. The type is a number, the byte of the format that has just been written:
+    // What follows the type of a value. An arm writes what its type has: a table of the calls would need the same line for each type.
+    // The type is a number, the byte of the format that has just been written:
     // an enum of them would be turned into a byte, or made of one, at each of its uses (`slice_words::value`).
     #[tactic(auto, using(crate::proofs::Writes::writing), unfolding(crate::specs::Data::operand_data))]
     fn operand(&mut self, kind: u8, entry: Entry)

@@ -144,7 +144,8 @@ impl Lists<'_> {
         }
     }
 
-    // Only counts: the reader of records takes the same data apart, and has nothing to count.
+    // Only counts: the reader of records takes the same data apart, and has nothing to count. An arm is one call with
+    // what it counts: a table of the calls would need the same line for each sort of data.
     fn kind_data(&self, kind: u32, entry: Entry) -> Data
         requires { Operands self.now.script.bytes.now self.now.list.now kind entry.first entry.second }
         ensures { result ≡ data_in self.now.script.bytes.now self.now.list.now kind entry.first entry.second }
