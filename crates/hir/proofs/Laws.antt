@@ -9,11 +9,6 @@ module _ {A B : Type 0} (f : A → B) where
   map_count none = refl
   map_count (more before r kids) = simp (map_count before, map_count kids)
 
-  pub map_depth : (t : Forest A) → depth (map_forest f t) ≡ depth t
-  unfolding map_forest depth
-  map_depth none = refl
-  map_depth (more before r kids) = simp (map_depth before, map_depth kids)
-
 -- a chain of three records has depth 3, three records in a row have depth 1
 abbrev pub chain : Forest ℕ
 chain = more none 0 (more none 1 (more none 2 none))

@@ -29,7 +29,7 @@ use Rattle.list_slice.proofs.Read.{actions, map_append, placed_flat, read_says}
 
 -- an action has an entry, or as many as it has values
 
-from_length : (p : ℕ) (vs : List Value) → length (values_from p vs) ≡ length vs
+pub from_length : (p : ℕ) (vs : List Value) → length (values_from p vs) ≡ length vs
 unfolding values_from
 from_length p [] = refl
 from_length p (v ∷ vs) = ap suc (from_length (p + length (value_bytes v)) vs)
