@@ -45,14 +45,14 @@ action_length p (Action.push vs) = rw (values_length (p + 3) vs) (omega arith)
 action_length p (Action.branch b l) = omega arith
 action_length p (Action.define h n) = omega arith
 
-abbrev stored : List Placed → List Entry
+abbrev pub stored : List Placed → List Entry
 stored xs = entries_of (reverse (placed_in_order xs))
 
 stored_length : (xs : List Placed) → length (stored xs) ≡ length (placed_in_order xs)
 unfolding entries_of
 stored_length xs = length-map (reverse (placed_in_order xs)) _ ∙ length-reverse (placed_in_order xs)
 
-stored_map : (ls : List (List Placed)) → map entries_of (map (λ (xs : List Placed). reverse (placed_in_order xs)) ls) ≡ map stored ls
+pub stored_map : (ls : List (List Placed)) → map entries_of (map (λ (xs : List Placed). reverse (placed_in_order xs)) ls) ≡ map stored ls
 stored_map [] = refl
 stored_map (xs ∷ ls) = ap (λ (r : List (List Entry)). stored xs ∷ r) (stored_map ls)
 
