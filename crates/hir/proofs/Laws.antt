@@ -1,4 +1,4 @@
--- Trees in a row keep their number and depth when their records are changed.
+-- Trees in a row keep their number when their records are changed.
 use Prim.Native.Nat.{ℕ}
 use mathlib.Core.Path.{◌≡◌, refl}
 use Rattle.hir.specs.Tree.{Forest, none, more, map_forest, count, depth}
