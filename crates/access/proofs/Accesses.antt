@@ -18,6 +18,7 @@ use Rattle.script.specs.Resolve.{constant_over}
 use Rattle.lowering.specs.Builder.{Step, ◌>>◌, plain_action, push, push_string}
 use Rattle.lowering.specs.Access.{Access, Variable, Direct, SpecialProperty, for_name, for_identifier, for_constant, set_value, get_and_set_value, store_register}
 use Rattle.list_slice.specs.File.{text_in, names_string}
+use Rattle.slice_words.proofs.Strings.{text_is}
 use Rattle.codegen_state.specs.declared.BuilderState.{BuilderState}
 use Rattle.codegen_state.specs.View.{value_in}
 use Rattle.codegen_state.specs.Does.{Does}
@@ -27,7 +28,7 @@ use Rattle.tree.specs.Within.{constant_named}
 use Rattle.access.specs.Accesses.{access_of, pushed_direct, call_register}
 use Rattle.access.specs.declared.Access as code
 use Rattle.access.proofs.Chains.{row, leaves, runs_row}
-use Rattle.access.proofs.Texts.{text_is, no_text_lem}
+use Rattle.access.proofs.Texts.{no_text_lem}
 
 module _ (F : List ℕ) {b r : BuilderState} {w w' : List ℕ} where
   pub null_name : (s : ℕ) → same_bytes (text_in F s) null ≡ true → Does F (push Null) b w tt r w' →

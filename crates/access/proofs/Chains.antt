@@ -29,8 +29,5 @@ module _ {F : List ℕ} {b c d : CodeBuilder} where
   pub runs_row : {A : Type 0} {a : A} (m : Step) (k : M A) → Runs F m b tt c → Runs F k c a d → Runs F (m >> k) b a d
   runs_row m k x y = record { keeps = keeps_then x.keeps y.keeps; does = row m k x.does y.does }
 
-  pub runs_bound : {A B : Type 0} {a : A} {x : B} (m : M A) (k : A → M B) → Runs F m b a c → Runs F (k a) c x d → Runs F (m >>= k) b x d
-  runs_bound m k x y = record { keeps = keeps_then x.keeps y.keeps; does = bound m k x.does y.does }
-
 pub runs_idle : {F : List ℕ} {b : CodeBuilder} → Runs F done b tt b
 runs_idle {b = b} = record { keeps = kept refl; does = idle b.fine }

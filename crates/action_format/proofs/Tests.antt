@@ -33,6 +33,10 @@ abbrev pub All : {A : Type 0} → (A → Type 0) → List A → Type 0
 All Q [] = Unit
 All Q (x ∷ xs) = Q x × All Q xs
 
+pub all_both : {A : Type 0} (f : A → Bool) (xs ys : List A) → T (all f xs) → T (all f ys) → T (all f (xs ++ ys))
+all_both f [] ys h k = k
+all_both f (x ∷ xs) ys h k = and_both (f x) (all f (xs ++ ys)) (and_first (f x) (all f xs) h) (all_both f xs ys (and_second (f x) (all f xs) h) k)
+
 pub all_append : {A : Type 0} (f : A → Bool) (xs ys : List A) → T (all f (xs ++ ys)) → T (all f xs) × T (all f ys)
 all_append f [] ys h = (tt, h)
 all_append f (x ∷ xs) ys h =

@@ -1,7 +1,7 @@
 -- Which bytes are read: by sums over the lists with positions.
 use Prim.Native.Nat.{ℕ, suc, ◌+◌, ◌≤◌}
 use mathlib.Core.Path.{◌≡◌, refl, sym, ap, ap₂, ◌∙◌, subst}
-use mathlib.Core.List.{List, [], ◌∷◌, ◌++◌, map, reverse}
+use mathlib.Core.List.{List, [], ◌∷◌, ◌++◌, map}
 use mathlib.Core.Bool.{Bool, true, false, ◌&&◌}
 use mathlib.Core.Option
 use mathlib.Core.Option.{Option, none, some}
@@ -22,9 +22,10 @@ use Rattle.action_format.specs.Decode.{read_top, tested, decode}
 use Rattle.action_format.proofs.Tests.{and_first, and_second, and_both, All, never, some_of}
 use Rattle.action_format.proofs.Offsets.{sizes_fill}
 use Rattle.action_format.proofs.Numbers.{nest_flat}
-use Rattle.list_slice.specs.Entry.{Entry, entries_of}
-use Rattle.list_slice.specs.Read.{Placed, at, placed_in_order, pieces_read, entries_read}
+use Rattle.list_slice.specs.Entry.{Entry}
+use Rattle.list_slice.specs.Read.{Placed, at, pieces_read, entries_read}
 use Rattle.list_slice.proofs.Read.{map_append, actions}
+use Rattle.list_slice.proofs.ReadWords.{stored, stored_map}
 use Rattle.action_reader.specs.Walk.{Ended, ended_at, Spread, spread, spread_of, total_lists, bounds, settled, fixed, sure, fixed_list, sure_list, holds, one, valued}
 use Rattle.action_reader.proofs.Lands.{froms, bounds_are, places_law}
 use Rattle.action_reader.proofs.Raw.{goes, raw_settles}
@@ -232,18 +233,11 @@ from_zero : (rs : List ℕ) → 0 ≡ 0 + position rs 0
 unfolding position
 from_zero rs = omega arith
 
-abbrev stored : List Placed → List Entry
-stored xs = entries_of (reverse (placed_in_order xs))
-
 entries_of_lem : (c : Code) → entries_read (lists_of_outcome c) ≡ map stored (plainly (spread 0 0 c).lists ++ ((spread 0 0 c).own ∷ []))
 unfolding entries_read pieces_read
 entries_of_lem c =
     let h = spread_placed 0 0 c in
-    rw (nest_flat c, h.0, h.1) (go (plainly (spread 0 0 c).lists ++ ((spread 0 0 c).own ∷ [])))
-  where
-    go : (xss : List (List Placed)) → map entries_of (map (λ (xs : List Placed). reverse (placed_in_order xs)) xss) ≡ map stored xss
-    go [] = refl
-    go (xs ∷ xss) = ap (λ (r : List (List Entry)). stored xs ∷ r) (go xss)
+    rw (nest_flat c, h.0, h.1) (stored_map (plainly (spread 0 0 c).lists ++ ((spread 0 0 c).own ∷ [])))
 
 settled_lists : (ls : List Ended) → map stored (plainly (map fixed_list ls)) ≡ map settled ls
 unfolding settled

@@ -14,13 +14,14 @@ use Rattle.pcode.specs.Pcode.{Value, Header, push, define}
 use Rattle.lowering.specs.Builder.{limits01}
 use Rattle.action_format.specs.Lists.{Single, pushing, single}
 use Rattle.action_format.specs.Rules.{Limits, action_values}
-use Rattle.action_format.specs.Bytes.{Bytes, value_bytes, single_bytes, header_bytes}
+use Rattle.action_format.specs.Bytes.{Bytes, single_bytes, header_bytes}
 use Rattle.action_format.specs.Readers.{read_bytes}
 use Rattle.action_format.specs.Decode.{Record, alone, header, read_record, decode}
-use Rattle.list_slice.specs.Entry.{Entry, entry, entry_of}
+use Rattle.list_slice.specs.Entry.{entry, entry_of}
 use Rattle.list_slice.specs.Entry as Push
 use Rattle.list_slice.specs.Words.{joined, ends_from}
 use Rattle.list_slice.specs.Items.{push_pieces}
+use Rattle.list_slice.proofs.ReadWords.{from_length}
 use Rattle.list_slice.specs.Read.{Placed, at, values_from}
 use Rattle.builder.specs.Entries.{put3}
 use Rattle.definition.specs.Outcome.{byte_limits}
@@ -53,11 +54,6 @@ too_short n r h = rw (lt-leb n (length r) h)
 pieces_length : (xs : List Push.Pushed) → length (push_pieces xs) ≡ length xs
 pieces_length [] = refl
 pieces_length (x ∷ xs) = ap suc (length-map xs (Push.value false))
-
-from_length : (p : ℕ) (vs : List Value) → length (values_from p vs) ≡ length vs
-unfolding values_from
-from_length p [] = refl
-from_length p (v ∷ vs) = ap suc (from_length (p + length (value_bytes v)) vs)
 
 entries_length : (p : ℕ) (vs : List Value) → length (value_entries p vs) ≡ length vs
 entries_length p vs =

@@ -35,7 +35,8 @@ use Rattle.resolver.specs.Passes.{walked_at}
 use Rattle.resolver.specs.Lowered.{Lowered}
 use Rattle.resolver.specs.Resolved.{Tables, Resolved}
 use Rattle.resolver.proofs.Whole.{few_lists, long_slice, order_at, cap_at, split, lists_count, walked_list}
-use Rattle.resolver.proofs.Stand.{list_by_place, made, stands}
+use Rattle.definition.proofs.Branches.{list_by_place}
+use Rattle.resolver.proofs.Stand.{made, stands}
 use Rattle.resolver.proofs.Written.{body_walked}
 use Rattle.action_writer.specs.Bodies.{held_lists, number_in, body_at, items_from, bytes_of}
 use Rattle.action_writer.specs.Steps.{Sort, a_mark, a-function, an-action, a-first-value, a-later-value, sort_of, value', Step, WritableList, Writable}

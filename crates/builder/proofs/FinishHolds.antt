@@ -1,5 +1,5 @@
 -- The top list has joined the finished ones, and each label has its word: the words hold the script's lists.
-use Prim.Native.Nat.{ℕ, zero, suc, ◌+◌, ◌-◌, ◌*◌, ◌≤◌, ◌<◌}
+use Prim.Native.Nat.{ℕ, suc, ◌+◌, ◌-◌, ◌*◌, ◌≤◌, ◌<◌}
 use mathlib.Core.Path.{◌≡◌, refl, sym, ap, ◌∙◌}
 use mathlib.Core.Logic.{◌≢◌}
 use mathlib.Core.List.{List, [], ◌∷◌, ◌++◌, map, reverse}
@@ -14,13 +14,13 @@ use Rattle.pcode.specs.Pcode.{Plain, Item}
 use Rattle.lowering.specs.Builder.{limits01}
 use Rattle.lowering.specs.Statement.{with_pool}
 use Rattle.action_format.specs.Lists.{all}
-use Rattle.action_format.proofs.Tests.{and_both}
+use Rattle.action_format.proofs.Tests.{and_both, all_both}
 use Rattle.list_slice.specs.Entry.{Piece, ConstantPool, Entry, entry, entry_of, piece_of}
 use Rattle.list_slice.specs.Words.{zeros_of, area, joined, LastFilled, entry_at, run, cut}
 use Rattle.list_slice.specs.Items.{plain, items_of}
 use Rattle.list_slice.specs.File.{text_in, names_string, in_file}
 use Rattle.list_slice.specs.Compiled.{finishing, label_word, label_words, piece_named, pool_count, Holds}
-use Rattle.list_slice.proofs.Areas.{length_area, zeros_length}
+use Rattle.list_slice.proofs.Areas.{length_area, area_at, zeros_length}
 use Rattle.list_slice.proofs.Pieces.{piece_back}
 use Rattle.list_slice.proofs.Laid.{Rising, entries_are}
 use Rattle.list_slice.proofs.Labels.{label_word_at}
@@ -39,17 +39,9 @@ use Rattle.builder.proofs.Move.{same_inside, side_word, part_more}
 use Rattle.builder.proofs.Ended.{rising_snoc, cut_snoc, run_moved, run_snoc}
 use Rattle.builder.proofs.Filled.{fills}
 use Rattle.builder.proofs.FinishWords.{cleared, same_entries, located_append}
-use Rattle.builder.proofs.FinishReads.{cut_written, no_counts, all_named, run_reads, joined_map, cut_reads, pool_first, all_both, all_taken}
+use Rattle.builder.proofs.FinishReads.{cut_written, no_counts, all_named, run_reads, joined_map, cut_reads, pool_first, all_taken}
 
 -- a table of words, and zeros after it
-
-area_at : (n : ℕ) (ws : List ℕ) (j : ℕ) → j < n → get_or (area n ws) j 0 ≡ get_or ws j 0
-unfolding area
-area_at zero ws j h = absurd (omega arith)
-area_at (suc n) [] zero h = refl
-area_at (suc n) [] (suc j) h = area_at n [] j (omega arith)
-area_at (suc n) (x ∷ ws) zero h = refl
-area_at (suc n) (x ∷ ws) (suc j) h = area_at n ws j (omega arith)
 
 table : (w : List ℕ) (a n : ℕ) (ws : List ℕ) → a + n ≤ length w → ((j : ℕ) → j < n → get_or w (a + j) 0 ≡ get_or ws j 0) → take n (drop a w) ≡ area n ws
 table w a n ws l h =

@@ -15,12 +15,11 @@ use Rattle.list_slice.specs.Items.{References, value_of, plain, extended, added,
 use Rattle.list_slice.specs.File.{text_in, in_file}
 use Rattle.list_slice.specs.Compiled.{piece_named, pool_count}
 use Rattle.list_slice.proofs.Pieces.{piece_back}
-use Rattle.list_slice.proofs.Laid.{Rising}
+use Rattle.list_slice.proofs.Laid.{Rising, rising_le}
 use Rattle.list_slice.proofs.Read.{map_append}
 use Rattle.list_slice.proofs.Determined.{gathered_same}
 use Rattle.codegen_state.specs.View.{gather, good}
 use Rattle.codegen_state.specs.Does.{Written}
-use Rattle.builder.proofs.Leaves.{rising_le}
 
 -- entries that are those of pieces
 
@@ -121,10 +120,6 @@ unfolding items_of
 pool_first F pool es n =
     rw (map_append piece_of es (entry 0x88 n 0 ∷ []), piece_back (ConstantPool n), gathered_pool (in_file F pool) (map piece_of es) n)
     (reverse-append (gathered (in_file F pool) (map piece_of es)) (plain (Plain.ConstantPool (map (text_in F) (take n pool))) ∷ []))
-
-pub all_both : {A : Type 0} (f : A → Bool) (xs ys : List A) → T (all f xs) → T (all f ys) → T (all f (xs ++ ys))
-all_both f [] ys h k = k
-all_both f (x ∷ xs) ys h k = and_both (f x) (all f (xs ++ ys)) (and_first (f x) (all f xs) h) (all_both f xs ys (and_second (f x) (all f xs) h) k)
 
 pub all_taken : (f : ℕ → Bool) (k : ℕ) (xs : List ℕ) → ((i : ℕ) → i < k → T (f (get_or xs i 0))) → T (all f (take k xs))
 all_taken f zero xs h = tt

@@ -17,12 +17,12 @@ use Rattle.list_slice.specs.Words.{entry_at, run, cut}
 use Rattle.list_slice.specs.File.{in_file}
 use Rattle.list_slice.specs.Items.{added, gathered}
 use Rattle.list_slice.specs.Compiled.{place_word, label_word}
-use Rattle.list_slice.proofs.Laid.{Rising}
+use Rattle.list_slice.proofs.Laid.{Rising, rising_le}
 use Rattle.list_slice.proofs.Read.{map_append}
 use Rattle.codegen_state.specs.View.{gather}
 use Rattle.builder.specs.Places.{Cleared, placed, placed_at, actions_added, either, Located, list_at, lists_at, Standing, Finished}
 use Rattle.builder.proofs.Filled.{Filled}
-use Rattle.builder.proofs.Leaves.{run_same, rising_le, gather_more}
+use Rattle.builder.proofs.Leaves.{run_same, gather_more}
 use Rattle.builder.proofs.Move.{part_more}
 use Rattle.builder.proofs.Ended.{rising_snoc, cut_snoc, run_cons}
 use Rattle.builder.proofs.FinishItems.{either_zero, either_more, place_else, place, own_word, step_place, step_before, step_count}

@@ -16,7 +16,7 @@ use Rattle.list_slice.specs.Words.{entry_at, run, cut}
 use Rattle.list_slice.specs.Items.{added, gathered}
 use Rattle.list_slice.specs.File.{in_file}
 use Rattle.list_slice.proofs.Pieces.{piece_back}
-use Rattle.list_slice.proofs.Laid.{Rising}
+use Rattle.list_slice.proofs.Laid.{Rising, rising_le}
 use Rattle.codegen_state.specs.declared.Stop.{Stop}
 use Rattle.codegen_state.specs.declared.Stop.TheVariants.{TooMany}
 use Rattle.codegen_state.specs.declared.BuilderState.{BuilderState}
@@ -122,10 +122,6 @@ pub run_same : (w w' : List ℕ) (i n : ℕ) → ((j : ℕ) → i ≤ j → j < 
 unfolding run
 run_same w w' i zero h = refl
 run_same w w' i (suc n) h = rw (h i (omega arith) (omega arith), run_same w w' (suc i) n (λ j p q. h j (omega arith) (omega arith)))
-
-pub rising_le : (p : ℕ) (es : List ℕ) (low : ℕ) → Rising p es low → p ≤ low
-rising_le p [] low h = omega arith
-rising_le p (e ∷ es) low h = omega (arith, h.0, rising_le e es low h.1)
 
 pub cut_same : (w w' : List ℕ) (p : ℕ) (es : List ℕ) (low : ℕ) → Rising p es low → ((j : ℕ) → p ≤ j → j < low → entry_at w' j ≡ entry_at w j) → cut w' p es ≡ cut w p es
 unfolding cut

@@ -1,7 +1,7 @@
 -- The string of a reference, and the search of the pool along the strings of one hash.
 use Prim.Native.Nat.{ℕ, zero, suc, ◌+◌, ◌-◌, ◌≤◌, ◌<◌}
 use mathlib.Core.Path.{◌≡◌, refl, sym, ap, ◌∙◌}
-use mathlib.Core.List.{List, [], ◌∷◌, map}
+use mathlib.Core.List.{List, ◌∷◌, map}
 use mathlib.Core.Bool.{Bool, true, false, cond}
 use mathlib.Core.Option.{none, some}
 use mathlib.Core.Option as math
@@ -9,26 +9,16 @@ use native.Mathlib.Omega.{arith}
 use lib.ListN.{length, get_or, take, drop, length-take, length-drop, drop_of_length-le}
 use lib.Seq.{drop-cons, get_or-take, get_or-drop}
 use lib.Dec.{eqb}
-use borrow.Author.Tests.{eq-eqb, ne_eqb, eqb-false}
+use borrow.Author.Tests.{eqb-false}
 use Rattle.std.specs.Prelude.{Option, None}
 use Rattle.hir.specs.Hir.{Str}
 use Rattle.special_properties.specs.SpecialProperties.{same_bytes}
-use Rattle.script_records.specs.declared.layout.Layout.{Layout}
-use Rattle.script_records.specs.Layout.{layout_of, string_at}
 use Rattle.lowering.specs.Strings.{find}
-use Rattle.list_slice.specs.File.{no_string, text_in}
+use Rattle.list_slice.specs.File.{text_in}
 use Rattle.codegen_state.specs.Index.{hash, latest, hash_at, Indexed}
 use Rattle.codegen_state.proofs.Index.{latest_le, latest_again, latest_has}
 use Rattle.special_properties.proofs.Laws.{same_bytes_equal}
 use Rattle.constants.specs.Pool.{place, found_of}
-
-pub text_none : (F : List ℕ) (s : ℕ) → s ≡ no_string → [] ≡ text_in F s
-unfolding text_in
-text_none F s h = simp (eq-eqb s no_string h)
-
-pub text_of : (F : List ℕ) (s : ℕ) {l : Layout} → (s ≡ no_string → ⊥) → l ≡ layout_of F → {t : List ℕ} → t ≡ string_at F l s → t ≡ text_in F s
-unfolding text_in
-text_of F s h e g = g ∙ simp (ne_eqb s no_string h, e)
 
 -- the same reference is the same string
 pub same_reference : (F : List ℕ) {s t : ℕ} → t ≡ s → true ≡ same_bytes (text_in F s) (text_in F t)

@@ -66,7 +66,7 @@ pub marked_there : (is : List Item) → Closed is → (i : ℕ) (b : Branching) 
 marked_there is h i b label e = only_one (marked 0 label is) (as_often 0 label is ∙ h label (label_in is i b label e))
 
 -- list k by place
-list_by_place : (ls : List (List Item)) (k : ℕ) → list_of (by_place ls) k ≡ items_by_place (list_at ls k)
+pub list_by_place : (ls : List (List Item)) (k : ℕ) → list_of (by_place ls) k ≡ items_by_place (list_at ls k)
 list_by_place [] zero = refl
 list_by_place [] (suc k) = refl
 list_by_place (t ∷ fs) zero = refl

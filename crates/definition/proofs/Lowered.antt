@@ -1,8 +1,8 @@
 -- What lowering gives for a tree in range keeps the rules of lists, all but the one on zero bytes.
 use Prim.Native.Nat.{ℕ, suc, ◌^◌, ◌<◌, ◌≤◌}
 use mathlib.Core.Path.{◌≡◌, refl, sym, ◌∙◌, subst}
-use mathlib.Core.List.{List, [], ◌∷◌, ◌++◌, map}
-use mathlib.Core.Bool.{Bool, true, false, ◌&&◌}
+use mathlib.Core.List.{List, [], ◌∷◌, map}
+use mathlib.Core.Bool.{Bool, true, ◌&&◌}
 use native.Mathlib.Omega.{arith}
 use lib.Dec.{T, leb, ltb, le→leb, lt→ltb}
 use lib.ListN.{length, get_or, length-map}
@@ -19,7 +19,7 @@ use Rattle.action_format.specs.ByPlace.{actions, place_of_label, rebranch, items
 use Rattle.action_format.specs.Lists.{Lists, all_lists, lists_by_place, all, simple, pushing, branching, Numbered, stop, one, function}
 use Rattle.action_format.specs.Strings.{value_strings, values_strings, plain_strings, header_strings, strings, lists_are_utf8}
 use Rattle.action_format.specs.Rules.{value_fits, plain_fits, header_fits, filled, fits, list_fits, no_pool, pool_first, total, action_values, within, shaped, OfLowering}
-use Rattle.action_format.proofs.Tests.{and_both, never, some_of}
+use Rattle.action_format.proofs.Tests.{and_both, all_both, never, some_of}
 use Rattle.action_format.proofs.ByPlace.{place_inside}
 use Rattle.definition.specs.Outcome.{byte_limits}
 
@@ -28,14 +28,6 @@ abbrev pub Utf8 : Str → Type 0
 Utf8 s = T (utf8 s)
 
 -- every test of a list, from what holds of its items
-
-all_both : {A : Type 0} (f : A → Bool) (xs ys : List A) → T (all f xs) → T (all f ys) → T (all f (xs ++ ys))
-all_both f [] ys h k = k
-all_both f (x ∷ xs) ys h k = both_then (f x) h (all_both f xs ys)
-  where
-    both_then : (b : Bool) → T (b && all f xs) → (T (all f xs) → T (all f ys) → T (all f (xs ++ ys))) → T (b && all f (xs ++ ys))
-    both_then true h r = r h k
-    both_then false h r = absurd h
 
 each : {A : Type 0} {Q : A → Type 0} (f : A → Bool) → ((a : A) → Q a → T (f a)) → (xs : List A) → All Q xs → T (all f xs)
 each f k [] h = tt

@@ -73,13 +73,13 @@ module _ (l : Lists) (f : ℕ → ℕ → Action → Bool) where
       go (inr y) = y
       go (inl g) = let z : ⊥ = subst (λ (c : Bool). T c) e (h g) in absurd z
 
-every : {A : Type 0} (f : A → Bool) (xs : List A) → ((i : ℕ) (a : A) → get_elem? xs i ≡ some a → T (f a)) → T (all f xs)
-every f [] h = tt
-every f (x ∷ xs) h = and_both (f x) (all f xs) (h 0 x refl) (every f xs (λ i a e. h (suc i) a e))
+pub by_elem : {A : Type 0} (f : A → Bool) (xs : List A) → ((i : ℕ) (a : A) → get_elem? xs i ≡ some a → T (f a)) → T (all f xs)
+by_elem f [] h = tt
+by_elem f (x ∷ xs) h = and_both (f x) (all f xs) (h 0 x refl) (by_elem f xs (λ i a e. h (suc i) a e))
 
 every_list : (f : Action → Bool) (ls : List (List Action)) → ((k i : ℕ) (a : Action) → get_elem? (get_or ls k []) i ≡ some a → T (f a)) → T (all (all f) ls)
 every_list f [] h = tt
-every_list f (x ∷ ls) h = and_both (all f x) (all (all f) ls) (every f x (h 0)) (every_list f ls (λ k i a e. h (suc k) i a e))
+every_list f (x ∷ ls) h = and_both (all f x) (all (all f) ls) (by_elem f x (h 0)) (every_list f ls (λ k i a e. h (suc k) i a e))
 
 broken : (l : Lists) → Numbered l.functions 0 l.top (length l.functions) → (room n : ℕ) → n ≤ 11 → NotWritten l room n →
     (k : ℕ) × (i : ℕ) × (a : Action) × (get_elem? (list_of l k) i ≡ some a) × BrokenAt l k i a n

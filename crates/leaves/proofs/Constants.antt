@@ -20,7 +20,7 @@ use Rattle.codegen_state.specs.Does.{Fine, Does}
 use Rattle.codegen_state.proofs.Steps.{idle, returned}
 use Rattle.tree.specs.Within.{constant_named}
 use Rattle.access.proofs.Chains.{bound, leaves}
-use Rattle.access.proofs.Texts.{text_is}
+use Rattle.slice_words.proofs.Strings.{text_is}
 
 abbrev pub Reads : List ℕ → ConstantKind → BuilderState → List ℕ → BuilderState → List ℕ → Type 0
 Reads F c b w r w' = Does F (for_constant (constant_over (string_at F (layout_of F)) c) >>= get_value) b w tt r w'

@@ -17,7 +17,7 @@ use Rattle.list_slice.specs.File.{text_in}
 use Rattle.codegen_state.specs.declared.BuilderState.{BuilderState}
 use Rattle.codegen_state.specs.Does.{Does}
 use Rattle.access.proofs.Chains.{row, bound}
-use Rattle.access.proofs.Texts.{text_is}
+use Rattle.slice_words.proofs.Strings.{text_is}
 
 module _ (F : List ℕ) {b b1 b2 r : BuilderState} {w w1 w2 w' : List ℕ} {t : EnumeratorTarget} where
   pub declared : {s : ℕ} {d : Bool} → t ≡ target.Variable s d → d ≡ true → length F ≤ 1048576 → Does F (push_string (text_in F s)) b w tt b1 w1 →

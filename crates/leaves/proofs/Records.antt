@@ -34,7 +34,8 @@ use Rattle.tree.proofs.Meanings.{kid_zero, list_zero}
 use Rattle.operators.specs.declared.shape.Shape as code
 use Rattle.operators.specs.declared.shape.Shape.TheVariants.{NamedFunction}
 use Rattle.operators.specs.Shapes.{shape_in}
-use Rattle.access.proofs.Texts.{text_is, no_text_lem, no_text_named}
+use Rattle.slice_words.proofs.Strings.{text_is}
+use Rattle.access.proofs.Texts.{no_text_lem, no_text_named}
 use Rattle.rows.proofs.Passed.{below, none_below, below_end, child_kind}
 
 -- a record's name

@@ -1,10 +1,10 @@
 -- The areas of the slice: their lengths, and where each is found.
-use Prim.Native.Nat.{ℕ, zero, suc, ◌+◌, ◌-◌, ◌≤◌}
+use Prim.Native.Nat.{ℕ, zero, suc, ◌+◌, ◌-◌, ◌≤◌, ◌<◌}
 use mathlib.Core.Path.{◌≡◌, refl, sym, ap, ◌∙◌}
 use mathlib.Core.List.{List, [], ◌∷◌, ◌++◌, append_assoc}
 use native.Mathlib.Nat.{zero-add, suc-add}
 use native.Mathlib.Omega.{arith}
-use lib.ListN.{length, take, drop, length-append, length-replicate}
+use lib.ListN.{length, take, drop, get_or, length-append, length-replicate}
 use lib.Seq.{take-append_seam, drop-append_seam, drop-nil}
 use Rattle.lowering.specs.Builder.{Limits}
 use Rattle.list_slice.specs.Entry.{Entry}
@@ -36,6 +36,15 @@ unfolding area
 area_is n [] h = area_empty n ∙ ap zeros_of (omega arith)
 area_is zero (w ∷ ws) h = absurd (omega arith)
 area_is (suc n) (w ∷ ws) h = ap (λ (r : List ℕ). w ∷ r) (area_is n ws (omega arith) ∙ ap (λ (k : ℕ). ws ++ zeros_of k) (omega arith))
+
+-- a word inside the area is the list's, or the 0 that is read past its end
+pub area_at : (n : ℕ) (ws : List ℕ) (j : ℕ) → j < n → get_or (area n ws) j 0 ≡ get_or ws j 0
+unfolding area
+area_at zero ws j h = absurd (omega arith)
+area_at (suc n) [] zero h = refl
+area_at (suc n) [] (suc j) h = area_at n [] j (omega arith)
+area_at (suc n) (x ∷ ws) zero h = refl
+area_at (suc n) (x ∷ ws) (suc j) h = area_at n ws j (omega arith)
 
 drop_at : (k : ℕ) (xs ys : List ℕ) → length xs ≡ k → drop k (xs ++ ys) ≡ ys
 drop_at k xs ys e = rw (← e) (drop-append_seam xs ys)

@@ -17,7 +17,7 @@ abbrev pub Rising : ℕ → List ℕ → ℕ → Type 0
 Rising p [] low = p ≡ low
 Rising p (e ∷ es) low = (p ≤ e) × Rising e es low
 
-rising_le : (p : ℕ) (es : List ℕ) (low : ℕ) → Rising p es low → p ≤ low
+pub rising_le : (p : ℕ) (es : List ℕ) (low : ℕ) → Rising p es low → p ≤ low
 rising_le p [] low h = omega arith
 rising_le p (e ∷ es) low h = omega (arith, h.0, rising_le e es low h.1)
 

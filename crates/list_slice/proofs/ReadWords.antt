@@ -29,7 +29,7 @@ use Rattle.list_slice.proofs.Read.{actions, map_append, placed_flat, read_says}
 
 -- an action has an entry, or as many as it has values
 
-from_length : (p : ℕ) (vs : List Value) → length (values_from p vs) ≡ length vs
+pub from_length : (p : ℕ) (vs : List Value) → length (values_from p vs) ≡ length vs
 unfolding values_from
 from_length p [] = refl
 from_length p (v ∷ vs) = ap suc (from_length (p + length (value_bytes v)) vs)
@@ -45,14 +45,14 @@ action_length p (Action.push vs) = rw (values_length (p + 3) vs) (omega arith)
 action_length p (Action.branch b l) = omega arith
 action_length p (Action.define h n) = omega arith
 
-abbrev stored : List Placed → List Entry
+abbrev pub stored : List Placed → List Entry
 stored xs = entries_of (reverse (placed_in_order xs))
 
 stored_length : (xs : List Placed) → length (stored xs) ≡ length (placed_in_order xs)
 unfolding entries_of
 stored_length xs = length-map (reverse (placed_in_order xs)) _ ∙ length-reverse (placed_in_order xs)
 
-stored_map : (ls : List (List Placed)) → map entries_of (map (λ (xs : List Placed). reverse (placed_in_order xs)) ls) ≡ map stored ls
+pub stored_map : (ls : List (List Placed)) → map entries_of (map (λ (xs : List Placed). reverse (placed_in_order xs)) ls) ≡ map stored ls
 stored_map [] = refl
 stored_map (xs ∷ ls) = ap (λ (r : List (List Entry)). stored xs ∷ r) (stored_map ls)
 

@@ -62,9 +62,6 @@ module _ {p : P Bool} {b : Bytes} {count : ℕ} where
         go none = refl
         go (some x) = rw (← and_assoc fits one (all itself x.0))
 
-    pub left_fails : i < count → none ≡ p rest → none ≡ judged (all itself) (read_many p count b)
-    left_fails h e = let k : count - i ≡ suc (count - (i + 1)) = omega arith in rw (l.is, k, ← e)
-
 pub many_judged : {A : Type 0} (t : A → Bool) (p : P A) (n : ℕ) (b : Bytes) → judged (all itself) (read_many (λ d. judged t (p d)) n b) ≡ judged (all t) (read_many p n b)
 many_judged t p zero b = refl
 many_judged {A = A} t p (suc n) b = go (p b) (many_judged t p n)

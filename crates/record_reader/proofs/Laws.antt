@@ -17,6 +17,7 @@ use Rattle.action_format.specs.Decode.{Record, alone, in_record, read_value, rea
 use Rattle.action_format.proofs.Tests.{never, some_of}
 use Rattle.action_format.proofs.Readers.{word_law, bytes_law}
 use Rattle.action_format.proofs.Values.{value_fills, reads_value}
+use Rattle.action_format.proofs.Bodies.{record_fills}
 use Rattle.action_format.proofs.Records.{record_code, record_bytes, record_data, Operands, reads_one}
 use Rattle.list_slice.specs.Entry as entries
 use Rattle.list_slice.specs.Items.{pushed_of, plain_piece}
@@ -38,13 +39,6 @@ pub record RecordAt (b : Bytes) (p : ℕ) (x : Record) (r : Bytes) : Type 0 wher
   pub short : length (record_bytes x) ≤ 65538
   pub short_data : T (leb (length (record_data x)) 65535)
   pub operands : Operands x
-
-pub record_fills : (x : Record) → 0 < length (record_bytes x)
-record_fills x = go (leb 0x80 (record_code x))
-  where
-    go : (t : Bool) → 0 < length (framed (record_code x) (record_data x) t)
-    go true = omega arith
-    go false = omega arith
 
 pub record_short : (x : Record) → T (leb (length (record_data x)) 65535) → length (record_bytes x) ≤ 65538
 unfolding word

@@ -72,10 +72,6 @@ pub record Values (d : Bytes) (pool next : ℕ) (fits : Bool) (count : ℕ) : Ty
   pub from : count ≤ next
   pub to : next ≤ length d
 
-after_none : {A : Type 0} (o : math.Option (List A × Bytes)) → bind o (λ xs. pure ([] ++ xs)) ≡ o
-after_none none = refl
-after_none (some x) = refl
-
 after_one : {A : Type 0} (o : math.Option (List A × Bytes)) (pre : List A) (v : A) →
     bind (bind o (λ xs. pure (v ∷ xs))) (λ xs. pure (pre ++ xs)) ≡ bind o (λ xs. pure ((pre ++ (v ∷ [])) ++ xs))
 after_one none pre v = refl

@@ -37,7 +37,8 @@ use Rattle.resolver.specs.Passes as answered
 use Rattle.resolver.specs.Passes.{walked_at, number_at, sizes_at, near_list, nearLists, Done, too_long, too_far, resolved, clear_lists, Answered, zero_byte, passed}
 use Rattle.resolver.specs.Resolved.{place_at, Tables, Resolves, refused, good}
 use Rattle.resolver.proofs.Whole.{split, lists_count, walked_list}
-use Rattle.resolver.proofs.Stand.{list_by_place}
+use Rattle.definition.proofs.Branches.{list_by_place}
+use Rattle.definition.proofs.Records.{by_elem}
 use Rattle.action_format.proofs.ByPlace.{actions_append, actions_reverse}
 use Rattle.resolver.proofs.Sizing.{reverse_more, body_sizes, lists, rules, body_of, sizes_at_lem, sized}
 
@@ -52,14 +53,7 @@ all_last f (x ∷ xs) a = ap (λ (b : Bool). f x && b) (all_last f xs a) ∙ swa
     swap false true c = refl
     swap false false c = refl
 
-by-elem : {A : Type 0} (f : A → Bool) (xs : List A) → ((i : ℕ) (a : A) → get_elem? xs i ≡ some a → T (f a)) → T (all f xs)
-by-elem f xs h = true_all f xs (go xs h)
-  where
-    go : (xs : List _) → ((i : ℕ) (a : _) → get_elem? xs i ≡ some a → T (f a)) → All (λ x. T (f x)) xs
-    go [] h = tt
-    go (x ∷ xs) h = (h 0 x refl, go xs (λ i. h (suc i)))
-
--- The library gives T (not b) here; what follows is stated by equations.
+-- The library's `false_from_ne_true` refutes an equation; what is refuted here is a T.
 not-truth : (b : Bool) → (T b → ⊥) → b ≡ false
 not-truth true h = absurd (h tt)
 not-truth false h = refl
@@ -236,7 +230,7 @@ module _ {F w : List ℕ} (h : Lowered F w) (bytes : Bytes F) where
 
   short-false : (j : ℕ) → j < count_of w → all_short (body_of h bytes) (walked_at F w j) ≡ false → short (code l) ≡ false
   short-false j b e = not-truth (short (code l)) (λ t. both_ways (all_short (body_of h bytes) (walked_at F w j)) e (short_at j b ∙ is_true (all (short_of (body_of h bytes)) (list_of l (number_at (count_of w) j)))
-      (by-elem (short_of (body_of h bytes)) (list_of l (number_at (count_of w) j)) (λ i a q. same_back a ((short_by_actions l (rules h bytes)).0 t (number_at (count_of w) j) i a q)))))
+      (by_elem (short_of (body_of h bytes)) (list_of l (number_at (count_of w) j)) (λ i a q. same_back a ((short_by_actions l (rules h bytes)).0 t (number_at (count_of w) j) i a q)))))
 
   -- refusal 11's test of a list
   module _ (j : ℕ) (below : j < count_of w) where

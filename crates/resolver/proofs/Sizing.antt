@@ -34,7 +34,7 @@ use Rattle.list_slice.proofs.Read.{map_append}
 use Rattle.definition.specs.Compile.{statements_of}
 use Rattle.definition.specs.Outcome.{by_place}
 use Rattle.definition.specs.Demand3.{list_at}
-use Rattle.definition.proofs.Branches.{marked_there}
+use Rattle.definition.proofs.Branches.{list_by_place, marked_there}
 use Rattle.resolver.specs.Lowered.{Lowered}
 use Rattle.resolver.specs.Walk.{count_of, end_of, start_of, piece_at, references_in, walked}
 use Rattle.resolver.specs.Sizes.{size_of, measures, short_of, all_short}
@@ -43,7 +43,7 @@ use Rattle.resolver.specs.Steps.{Fine, Standing, spots}
 use Rattle.resolver.specs.Passes.{walked_at, number_at, Sized}
 use Rattle.resolver.proofs.Walking.{walked_more, fine_next}
 use Rattle.resolver.proofs.Whole.{split, lists_count, walked_list, walked_back}
-use Rattle.resolver.proofs.Stand.{list_by_place, made, standing_at}
+use Rattle.resolver.proofs.Stand.{made, standing_at}
 
 -- items in order
 

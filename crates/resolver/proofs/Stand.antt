@@ -5,7 +5,7 @@ use mathlib.Core.List.Memᴰ
 use mathlib.Core.List.{List, [], ◌∷◌, ◌++◌, map, reverse_aux}
 use native.Mathlib.Omega.{arith}
 use lib.Dec.{T, lit≤}
-use lib.ListN.{length, get_or, get_or-map, length-map}
+use lib.ListN.{length, get_or, length-map}
 use Rattle.pcode.specs.Pcode.{Action, Item, plain, push, branch, define, action, mark}
 use Rattle.script.specs.Write.{Bytes}
 use Rattle.lowering.specs.Builder.{limits01}
@@ -31,6 +31,7 @@ use Rattle.list_slice.proofs.Pieces.{piece_back}
 use Rattle.definition.specs.Outcome.{by_place, byte_limits}
 use Rattle.definition.specs.Compile.{statements_of}
 use Rattle.definition.specs.Demand3.{list_at}
+use Rattle.definition.proofs.Branches.{list_by_place}
 use Rattle.definition.proofs.Kept.{kept_lists}
 use Rattle.resolver.specs.Lowered.{Lowered}
 use Rattle.resolver.specs.Walk.{count_of, end_of, start_of, piece_at, references_in, walked}
@@ -39,12 +40,6 @@ use Rattle.resolver.specs.Steps.{Fine, Standing}
 use Rattle.resolver.specs.Passes.{walked_at, number_at, Stands}
 use Rattle.resolver.proofs.Walking.{walked_more, fine_down}
 use Rattle.resolver.proofs.Whole.{few_lists, long_slice, order_at, cap_at, run_pieces, split, lists_count, walked_back}
-
-pub list_by_place : (ls : List (List Item)) (k : ℕ) → list_of (by_place ls) k ≡ items_by_place (list_at ls k)
-list_by_place [] zero = refl
-list_by_place [] (suc k) = refl
-list_by_place (t ∷ fs) zero = refl
-list_by_place (t ∷ fs) (suc k) = get_or-map items_by_place fs k []
 
 -- items of a list that lowering made
 fine_items : (f : ℕ → ℕ) (pool n : ℕ) (fs : List (List Action)) (is : List Item) → LabelsBelow 1024 is → T (all (fits pool n) (map (rebranch f) (actions is))) →

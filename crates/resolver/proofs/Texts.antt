@@ -9,7 +9,7 @@ use native.Mathlib.Omega.{arith}
 use lib.Dec.{T, ltb, leb, eqb}
 use lib.ListN.{length, take, drop, length-take, length-append}
 use lib.Seq.{take-take}
-use borrow.Author.Tests.{ltb-true, leb-true, eqb-true, eq-eqb, ne_eqb, lt-leb}
+use borrow.Author.Tests.{ltb-true, leb-true, eqb-true, eq-eqb, ne_eqb}
 use Rattle.std.specs.Prelude.{Some, None, unwrap_or}
 use Rattle.std.specs.List.{list_any, push}
 use Rattle.hir.specs.Hir.{Str}
@@ -36,10 +36,11 @@ use Rattle.list_slice.proofs.Read.{map_append}
 use Rattle.tree.specs.declared.Node.{Node}
 use Rattle.tree.specs.Trees.{rows_in, trees, rec_of, node_of}
 use Rattle.tree.specs.Within.{Within, IsNode, IsList}
-use Rattle.tree.proofs.Meanings.{params_are}
+use Rattle.list_slice.proofs.Functions.{params_meanings}
+use Rattle.slice_words.proofs.Strings.{text_is}
 use Rattle.tree.proofs.Nodes.{is_node, trees_none, trees_more}
 use Rattle.script_records.specs.declared.layout.Layout.{Layout}
-use Rattle.script_records.specs.Layout.{layout_of, rows_of, end_at, start_at, string_at}
+use Rattle.script_records.specs.Layout.{layout_of, rows_of, string_at}
 use Rattle.lowering.specs.Builder.{limits01}
 use Rattle.action_format.specs.Strings.{no_zero, header_strings}
 use Rattle.list_slice.specs.Words.{pool_in}
@@ -109,21 +110,6 @@ pool_words w n h =
     rw (e, take-take n 2048 (drop 14336 w) h)
 
 -- the names of parameters, from the last to the first
-
-string_none : (F : List ℕ) (l : Layout) → length F ≤ 1048576 → string_at F l no_string ≡ []
-unfolding string_at end_at
-string_none F l h =
-    let a : length F < l.ends + 4 * no_string + 4 = omega arith in
-    let b : 0 - start_at F l no_string ≡ 0 = omega arith in
-    rw (lt-leb (l.ends + 4 * no_string + 4) (length F) a) (ap (λ (n : ℕ). take n (drop (start_at F l no_string) F)) b)
-
-text_is : (F : List ℕ) (r : ℕ) → length F ≤ 1048576 → text_in F r ≡ string_at F (layout_of F) r
-unfolding text_in
-text_is F r h = go (eqb r no_string) refl
-  where
-    go : (t : Bool) → eqb r no_string ≡ t → cond t [] (string_at F (layout_of F) r) ≡ string_at F (layout_of F) r
-    go true e = sym (ap (string_at F (layout_of F)) (eqb-true r no_string e) ∙ string_none F (layout_of F) h)
-    go false e = refl
 
 no_name : (F : List ℕ) → text_in F no_string ≡ []
 unfolding text_in
@@ -296,9 +282,9 @@ unfolding function_of
 function_done {F} {l} h r f {row} e {n} q {p} ps s same t a u b =
     let k : row ≡ row_at F r = e ∙ ap (λ (x : Layout). row_in (rows_of F x) r) h.layout in
     let z : params_of (list 1 (trees F (kids_at F r))) ≡ params_of (trees F p) =
-    sym (params_are (list 1 (trees F (kids_at F r)))) ∙ ap params (sym (list_law 1 (trees F (kids_at F r))))
+    sym (params_meanings (list 1 (trees F (kids_at F r)))) ∙ ap params (sym (list_law 1 (trees F (kids_at F r))))
     ∙ ap (λ (m : ℕ). params (list 1 (meanings (trees F (record { end = r; n = m }))))) (sym (q ∙ ap (λ (x : Row). x.size - 1) k))
-    ∙ ap params ps.means ∙ params_are (trees F p) in
+    ∙ ap params ps.means ∙ params_meanings (trees F p) in
     rw (b, u, a, t, same, k, header_is F r f (accepted_short F h.accepted), z)
     (header_size (text_in F (function_name (row_at F r).a)) ((row_at F r).b % 256) ((row_at F r).c % 512) (params_of (trees F p)) (leb ((row_at F r).b % 256) 1))
 

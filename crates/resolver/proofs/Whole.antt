@@ -17,7 +17,7 @@ use Rattle.list_slice.specs.Words.{area, joined, ends_from, run, cut, keep, trim
 use Rattle.list_slice.specs.Items.{gathered, items_of}
 use Rattle.list_slice.specs.Compiled.{finishing, numbered, label_words, lists_in}
 use Rattle.list_slice.proofs.Laid.{length_cut}
-use Rattle.list_slice.proofs.Areas.{ends_in_lem}
+use Rattle.list_slice.proofs.Areas.{area_at, ends_in_lem}
 use Rattle.list_slice.proofs.Parse.{recovered}
 use Rattle.list_slice.proofs.Determined.{numbered_finishing, read_back}
 use Rattle.definition.specs.Compile.{statements_of}
@@ -64,14 +64,6 @@ trimmed_at (n ∷ ns) j h = go n (trimmed ns) (λ i. trimmed_at ns i) j h
     go (suc n) (t ∷ ts) f zero h = refl
     go zero (t ∷ ts) f (suc j) h = f j (omega arith)
     go (suc n) (t ∷ ts) f (suc j) h = f j (omega arith)
-
-area_at : (n : ℕ) (xs : List ℕ) (j : ℕ) → j < n → get_or (area n xs) j 0 ≡ get_or xs j 0
-unfolding area
-area_at zero xs j h = absurd (omega arith)
-area_at (suc n) [] zero h = refl
-area_at (suc n) [] (suc j) h = area_at n [] j (omega arith)
-area_at (suc n) (x ∷ xs) zero h = refl
-area_at (suc n) (x ∷ xs) (suc j) h = area_at n xs j (omega arith)
 
 -- finishing order, from numbers and back
 finishing_numbered : {A : Type 0} (xs : List (List A)) → 0 < length xs → finishing (numbered xs) ≡ xs

@@ -18,7 +18,7 @@ use Rattle.resolver.specs.Lowered.{Lowered}
 use Rattle.resolver.specs.Walk.{count_of, walked_bytes}
 use Rattle.resolver.specs.Passes.{walked_at, number_at}
 use Rattle.resolver.proofs.Whole.{walked_list}
-use Rattle.resolver.proofs.Stand.{list_by_place}
+use Rattle.definition.proofs.Branches.{list_by_place}
 use Rattle.action_format.proofs.ByPlace.{actions_append, actions_reverse}
 use Rattle.resolver.proofs.Sizing.{reverse_more, lists, rules}
 

@@ -210,9 +210,6 @@ pub record InnerInv (S : ScriptFile) (lp : code.Loop) (row inner : Trees) : Type
   pub script : inner.script ≡ S
   pub come : Innermost S.bytes.now S.layout (loop_of lp) row.part inner.part
 
-pub inner_start : (row : Trees) (lp : code.Loop) → InnerInv row.script lp row row
-inner_start row lp = record { script = refl; come = record { within = row.within; fewer = omega arith; same = λ v. refl } }
-
 module _ {S : ScriptFile} {lp : code.Loop} {row inner block : Trees} (i : InnerInv S lp row inner) (o : IsOnly lp inner block) (four : kind_at S.bytes.now S.layout block.part ≡ 4) where
   abbrev only : Only S.bytes.now S.layout (is_none lp.exit) (is_none lp.next) inner.part block.part
   only =

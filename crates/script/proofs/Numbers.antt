@@ -15,12 +15,8 @@ use Rattle.decode.specs.Numbers.{words, bit, unsigned, affix_place, binary_place
 use Rattle.script.specs.Forms.{Scalar, below, string, optional-string, limit, Form, form, counted, unsupported, unknown, kind_forms, form_of, has_form, fits}
 use Rattle.script.specs.Rules.{all_below}
 use Rattle.std.proofs.lemmas.Bool.{and_parts}
+use Rattle.utf8.proofs.Forms.{by_test}
 use Rattle.script.proofs.Written.{below_at}
-
--- the library's `cases_Bool` as a choice of two proofs, since below thirteen tests stand in one another
-decide : (t : Bool) {P : Type 0} → (t ≡ true → P) → (t ≡ false → P) → P
-decide true f g = f refl
-decide false f g = g refl
 
 -- what a form says of the words, in a file of m strings
 abbrev Bounded : ℕ → Form → ℕ → ℕ → ℕ → Type 0
@@ -72,7 +68,7 @@ name_of_lem (suc a) = rw eqb-suc-zero (omega arith)
 
 unsigned_signed : (n : ℕ) → n < 2 ^ 32 → unsigned (signed n) ≡ n
 unfolding signed
-unsigned_signed n h = decide (ltb n (2 ^ 31)) (λ e. rw e) (λ e. rw e (omega arith))
+unsigned_signed n h = by_test (ltb n (2 ^ 31)) (λ e. rw e) (λ e. rw e (omega arith))
 
 -- decoding the words k a b c, of a record whose form they keep, loses nothing
 abbrev Kept : (m k a b c : ℕ) → Type 0
@@ -225,26 +221,26 @@ module _ (m k a b c : ℕ) (s : supported k ≡ true) where
   plain_kept_lem : has_words k ≡ false → Bounded m (get_or kind_forms k unknown) a b c → words_for (plain_of k) ≡ words k a b c
   unfolding plain_kept
   plain_kept_lem n l =
-      decide (ltb k 102)
+      by_test (ltb k 102)
       (λ e. without_words_lem m k a b c (words_for (plain_of k)) (get_or kind_forms k unknown) (left_over (has_words k) (supported k) _ (below_at plain_kept 102 k plain_all (ltb-true k 102 e)) n s) l)
       (λ e. absurd (rw (get_or-eq_default kind_forms unknown (ltb-false k 102 e)) at l))
 
   kept : Kept m k a b c
   unfolding form_of record_of has_words
   kept =
-      decide (eqb k 0) (λ e. rw (eqb-true k 0 e) (declare_kept m a b c)) (λ n0.
-      decide (eqb k 5) (λ e. rw (eqb-true k 5 e) (for_in_kept m a b c)) (λ n5.
-      decide (eqb k 32) (λ e. rw (eqb-true k 32 e) (constant_kept m a b c)) (λ n32.
-      decide (eqb k 40) (λ e. rw (eqb-true k 40 e) (binary_kept m a b c)) (λ n40.
-      decide (eqb k 41) (λ e. rw (eqb-true k 41 e) (unary_kept m a b c)) (λ n41.
-      decide (eqb k 49) (λ e. rw (eqb-true k 49 e) (function_kept m a b c)) (λ n49.
-      decide (eqb k 52) (λ e. rw (eqb-true k 52 e) (goto_kept m a b c)) (λ n52.
-      decide (eqb k 69) (λ e. rw (eqb-true k 69 e) (drag_kept m a b c)) (λ n69.
-      decide (eqb k 75) (λ e. rw (eqb-true k 75 e) (get_kept m a b c)) (λ n75.
-      decide (eqb k 76) (λ e. rw (eqb-true k 76 e) (set_kept m a b c)) (λ n76.
-      decide (eqb k 97) (λ e. rw (eqb-true k 97 e) (list_kept m a b c)) (λ n97.
-      decide (eqb k 98) (λ e. rw (eqb-true k 98 e) (field_kept m a b c)) (λ n98.
-      decide (eqb k 99) (λ e. rw (eqb-true k 99 e) (parameter_kept m a b c)) (λ n99.
+      by_test (eqb k 0) (λ e. rw (eqb-true k 0 e) (declare_kept m a b c)) (λ n0.
+      by_test (eqb k 5) (λ e. rw (eqb-true k 5 e) (for_in_kept m a b c)) (λ n5.
+      by_test (eqb k 32) (λ e. rw (eqb-true k 32 e) (constant_kept m a b c)) (λ n32.
+      by_test (eqb k 40) (λ e. rw (eqb-true k 40 e) (binary_kept m a b c)) (λ n40.
+      by_test (eqb k 41) (λ e. rw (eqb-true k 41 e) (unary_kept m a b c)) (λ n41.
+      by_test (eqb k 49) (λ e. rw (eqb-true k 49 e) (function_kept m a b c)) (λ n49.
+      by_test (eqb k 52) (λ e. rw (eqb-true k 52 e) (goto_kept m a b c)) (λ n52.
+      by_test (eqb k 69) (λ e. rw (eqb-true k 69 e) (drag_kept m a b c)) (λ n69.
+      by_test (eqb k 75) (λ e. rw (eqb-true k 75 e) (get_kept m a b c)) (λ n75.
+      by_test (eqb k 76) (λ e. rw (eqb-true k 76 e) (set_kept m a b c)) (λ n76.
+      by_test (eqb k 97) (λ e. rw (eqb-true k 97 e) (list_kept m a b c)) (λ n97.
+      by_test (eqb k 98) (λ e. rw (eqb-true k 98 e) (field_kept m a b c)) (λ n98.
+      by_test (eqb k 99) (λ e. rw (eqb-true k 99 e) (parameter_kept m a b c)) (λ n99.
       λ h la lb lc. rw (n0, n5, n32, n40, n41, n49, n52, n69, n75, n76, n97, n98, n99) (plain_kept_lem (rw (n0, n5, n32, n40, n41, n49, n52, n69, n75, n76, n97, n98, n99)) (rw (n5, n32, n41) at h)))))))))))))))
 
 function_49 : (m a b c : ℕ) → Bounded m (form_of (words 49 a b c)) a b c → function_words (function_of (words 49 a b c)) ≡ words 49 a b c

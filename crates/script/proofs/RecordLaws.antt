@@ -195,8 +195,5 @@ module _ (m : ℕ) (rs : List Row) (i : ℕ) {r : Row} (e : r ≡ row_in rs i) w
       counted_both : (parted rs i (r.size - 1) ≡ true) × (n ≡ trees (forest rs i (r.size - 1)))
       counted_both = let h = cond_some (parted rs i (r.size - 1)) _ _ (sym q) in (h.0, sym h.1)
 
-      pub record_count_lem : n ≡ trees (forest rs i (r.size - 1))
-      record_count_lem = counted_both.1
-
       pub record_form : {b : Bool} → b ≡ fits m (words_of r) (forest rs i (r.size - 1)) → b ≡ record_holds m rs i
       record_form k = rw (holds_law, counted_both.0) k

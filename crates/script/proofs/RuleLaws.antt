@@ -2,7 +2,7 @@
 use Prim.Native.Nat.{ℕ, zero, suc, ◌+◌, ◌-◌, ◌≤◌, ◌<◌, max}
 use mathlib.Core.Path.{◌≡◌, refl, sym, ap, ◌∙◌}
 use mathlib.Core.List.{List, [], ◌∷◌, ◌++◌, reverse}
-use mathlib.Core.Bool.{Bool, true, false, ◌&&◌, and-false}
+use mathlib.Core.Bool.{Bool, true, false, and-false}
 use lib.Dec.{ltb}
 use Rattle.std.proofs.lemmas.Bool.Decides.{nat_tests}
 use lib.ListN.{length, length-append}
@@ -16,10 +16,10 @@ use Rattle.hir.specs.Tree.{depth}
 use Rattle.script_records.specs.declared.layout.Layout.{Layout}
 use Rattle.script_records.specs.declared.layout.Row.{Row}
 use Rattle.script_records.specs.declared.part.Tree.{Tree}
-use Rattle.script_records.specs.Layout.{has_trailer, areas_touch, words_of, row_in, span_at, forest, strings_from, strings_of, string_at, rows_of, layout_of}
+use Rattle.script_records.specs.Layout.{words_of, row_in, span_at, forest, strings_from, strings_of, string_at, rows_of, layout_of}
 use Rattle.script_records.specs.Parts.{trees_in, last_tree}
 use Rattle.script.specs.Forms.{statement, is_list}
-use Rattle.script.specs.Rules.{all_below, ends_hold, records_hold, rules_hold, check_of, max_depth, root_holds, all_utf8, all_supported, tree_in}
+use Rattle.script.specs.Rules.{all_below, rules_hold, check_of, max_depth, root_holds, all_utf8, all_supported, tree_in}
 use Rattle.utf8.specs.Utf8.{utf8}
 use Rattle.script_records.proofs.Trees.{forest_none, forest_more, span_le, span_pos}
 use Rattle.script.proofs.RecordLaws.{turned}
@@ -196,20 +196,6 @@ module _ (rs : List Row) (d : ℕ) {starts : List ℕ} (others : List ℕ) (s i 
       ordered = rw (reverse-append (others ++ s ∷ []), turned others s refl) (ordered_push rs s (reverse others) i deep_below apart still_open.1);
       same = same_open ∙ rw (reverse-append (others ++ s ∷ []), turned others s refl) (ap (ltb 128) (deepest_push rs s (reverse others) i deep_below apart));
     })
-
--- the rules together
-module _ (F : List ℕ) {l : Layout} (e : l ≡ layout_of F) {a : Bool} (p : a ≡ (has_trailer F && areas_touch F)) where
-  pub rules_areas : a ≡ false → false ≡ rules_hold F
-  unfolding rules_hold
-  rules_areas h = rw (← p, h)
-
-  pub rules_ends : {b : Bool} → a ≡ true → b ≡ ends_hold F l → b ≡ false → false ≡ rules_hold F
-  unfolding rules_hold
-  rules_ends h q k = rw (← p, h, ← e, ← q, k)
-
-  pub rules_records : {b c : Bool} → a ≡ true → b ≡ ends_hold F l → b ≡ true → c ≡ records_hold F l → c ≡ rules_hold F
-  unfolding rules_hold
-  rules_records h q k r = rw (← p, h, ← e, ← q, k) r
 
 pub check_long : (F : List ℕ) → 1048576 < length F → 4 ≡ check_of F
 unfolding check_of

@@ -119,9 +119,6 @@ kind_numbered kind.Parameter = refl
 kind_numbered kind.Case = refl
 kind_numbered kind.Default = refl
 
-pub same_kind : (j : Kind) {k : Kind} → kind_from (number_of j) ≡ Ok k → k ≡ j
-same_kind j h = let e = kind_numbered j in cc
-
 -- a test of this file and no lemma: the numbers that no kind has, between the statements and the expressions, or between the expressions and the others
 between : ℕ → Bool
 between n = (leb 16 n && ltb n 32) || (leb 78 n && ltb n 96)

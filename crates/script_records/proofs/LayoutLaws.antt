@@ -3,7 +3,6 @@ use Prim.Native.Nat.{ℕ, zero, suc, ◌+◌, ◌-◌, ◌*◌, ◌≤◌, ◌<�
 use mathlib.Core.Path.{◌≡◌, refl, sym, ap}
 use mathlib.Core.List.{List}
 use native.Mathlib.Omega.{arith}
-use native.Mathlib.Numerals.{sub-one}
 use mathlib.Core.Bool.{true}
 use borrow.Author.Tests.{ne_eqb, le-leb, lt-leb}
 use lib.ListN.{length, take, drop, length-drop, get_or-eq_default}
@@ -66,16 +65,6 @@ module _ (F : List ℕ) (l : Layout) (i : ℕ) where
   pub end_whole : {r : ℕ} → l.ends + 4 * i + 4 ≤ length F → r ≡ word_at F (l.ends + 4 * i) → r ≡ end_at F l i
   unfolding end_at
   end_whole h q = rw (le-leb (l.ends + 4 * i + 4) (length F)) q
-
-  pub start_zero : i ≡ 0 → 0 ≡ start_at F l i
-  start_zero h = rw h
-
-  pub start_after : {r : ℕ} → (i ≡ 0 → ⊥) → r ≡ end_at F l (i - 1) → r ≡ start_at F l i
-  start_after h q = go i h q
-    where
-      go : (j : ℕ) {r : ℕ} → (j ≡ 0 → ⊥) → r ≡ end_at F l (j - 1) → r ≡ start_at F l j
-      go zero h q = absurd (h refl)
-      go (suc j) h q = rw (sub-one) at q
 
   -- a part of the file, where the start and the end are kept inside it
   pub string_part : {s e : ℕ} → s ≡ start_at F l i → e ≡ end_at F l i →

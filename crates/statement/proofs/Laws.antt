@@ -4,7 +4,6 @@ use mathlib.Core.Path.{◌≡◌, refl, sym, ap, ◌∙◌}
 use mathlib.Core.List.{List, []}
 use mathlib.Core.Bool.{Bool, true, false, cond, not, ◌&&◌, ◌||◌}
 use mathlib.Core.Logic.{◌⊎◌, inl, inr}
-use mathlib.Core.Option.{get_or, none, some}
 use native.Mathlib.Omega.{arith}
 use lib.Dec.{T, leb, ltb, eqb}
 use borrow.Author.Tests.{lt-ltb}
@@ -45,7 +44,8 @@ use Rattle.tree.specs.Trees.{trees, rec_of, node_of, element_of, meant, counts_o
 use Rattle.tree.specs.Handle.{file_of, parts_of}
 use Rattle.tree.specs.Within.{live, constant_named, record_named, Within, IsNode, IsList, meanings_at, kid_at, list_at}
 use Rattle.tree.proofs.Nodes.{is_node, trees_more, trees_none, name_bytes}
-use Rattle.tree.proofs.Meanings.{kid_zero, params_are, labelled_less}
+use Rattle.list_slice.proofs.Functions.{params_meanings}
+use Rattle.tree.proofs.Meanings.{kid_zero, labelled_less}
 use Rattle.tree.proofs.Meanings as tree-meanings
 use Rattle.tree.proofs.Counting.{element_is}
 use Rattle.operators.specs.declared.shape.Shape.{Shape}
@@ -224,7 +224,7 @@ delta_at name g m ps false = refl
 module _ {F : List ℕ} {l : Layout} {p : Part} {t : Node Part} (i : IsNode F l p t) {n g m : ℕ} (e : t.root ≡ kind.Expr (expr-kind.Function n g m)) where
   pub function_at : (d : Bool) → (kid_at F p 0).gen_expr d ≡ define_function (header_in F t.number) (gen_statements no_loop (list_at F t.children 0))
   function_at d =
-      expr_at i d e ∙ rw (name_bytes (eqb n 0) (string_at F (layout_of F) (n - 1)), list_law 1 (trees F t.children), params_are (list 1 (trees F t.children)), ← i.function_header n g m e)
+      expr_at i d e ∙ rw (name_bytes (eqb n 0) (string_at F (layout_of F) (n - 1)), list_law 1 (trees F t.children), params_meanings (list 1 (trees F t.children)), ← i.function_header n g m e)
 
   pub function_size : (up : ℕ) → ((z : ℕ) → moved (name_delta (cond (eqb n 0) [] (string_at F (layout_of F) (n - 1)))) z ≡ z + up) → (z : ℕ) → moved (define_delta (header_in F t.number)) z ≡ z + up
   function_size up h z = rw (i.function_header n g m e, delta_at (cond (eqb n 0) [] (string_at F (layout_of F) (n - 1))) g m (params_of (list 1 (trees F t.children))) (leb g 1)) (h z)
@@ -278,10 +278,6 @@ bit_is false = refl
 pub rank_least : (d : Bool) → 3 ≤ cond d 3 4
 rank_least true = omega arith
 rank_least false = omega arith
-
-pub rank_most : (d : Bool) → cond d 3 4 ≤ 4
-rank_most true = omega arith
-rank_most false = omega arith
 
 pub rank_kept : (d : Bool) (affix : Affix) {x : Bool} → x ≡ (not d && not (is_prefix affix)) → x ≡ true → ◌≡◌ {A = ℕ} (cond d 3 4) 4
 rank_kept false affix e t = refl

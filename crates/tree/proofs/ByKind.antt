@@ -39,10 +39,6 @@ module _ (F : List ℕ) (l : Layout) (p : Part) where
   unfolding node_of
   rest_none h = rw (eq-eqb p.n 0 h)
 
-  pub rest_made : (p.n ≡ 0 → ⊥) → {t : Tree} → t ≡ last_tree (rows_of F l) p → t.before ≡ (node_of F l p).before
-  unfolding node_of
-  rest_made h e = rw (ne_eqb p.n 0 h, e)
-
   pub kids_none : p.n ≡ 0 → p ≡ (node_of F l p).children
   unfolding node_of
   kids_none h = rw (eq-eqb p.n 0 h)

@@ -19,7 +19,7 @@ use Rattle.tree.specs.declared.Element.{Element}
 use Rattle.tree.specs.declared.Element.TheVariants.{Case, Default, Statement}
 use Rattle.tree.specs.declared.Counts.{Counts}
 use Rattle.tree.specs.Trees.{meant, trees, rec_of, element_of, node_of, labelled, cases, from_default_of, counts_of}
-use Rattle.tree.specs.Count.{Few, with_tree}
+use Rattle.tree.specs.Count.{with_tree}
 use Rattle.tree.specs.Within.{Within}
 use Rattle.tree.proofs.Nodes.{is_node, trees_more, trees_none}
 
@@ -53,10 +53,6 @@ no_default : (d : Option ℕ) (labels : ℕ) → default_of d None labels ≡ d
 no_default None labels = refl
 no_default (Some d) labels = refl
 
-all_default : (n : Option ℕ) → default_of None n 0 ≡ n
-all_default None = refl
-all_default (Some n) = ap Some (omega arith)
-
 case_default : (d n : Option ℕ) (labels : ℕ) → default_of d (option_map suc n) labels ≡ default_of d n (labels + 1)
 case_default None None labels = refl
 case_default None (Some n) labels = ap Some (omega arith)
@@ -69,9 +65,6 @@ one_default (Some d) n labels = refl
 onto_none : (c : Counts) → onto c Forest.none ≡ c
 unfolding labelled cases from_default_of
 onto_none c = same_counts (omega arith) (omega arith) (omega arith) (no_default c.from_default c.labels)
-
-onto_start : (f : Forest Rec) → onto (record { trees = 0; labels = 0; cases = 0; from_default = None }) f ≡ counts_of f
-onto_start f = same_counts (omega arith) (omega arith) (omega arith) (all_default (from_default_of f))
 
 onto_more : (c : Counts) (before kids : Forest Rec) (r : Rec) (e : Element) → meaning.element r ≡ meant e → onto c (more before r kids) ≡ onto (with_tree e c) before
 unfolding labelled cases from_default_of
@@ -93,18 +86,10 @@ pub record Counted (F : List ℕ) (l : Layout) (p : Part) (found : Counts) (left
   pub cases : found.cases ≤ found.trees
 
 module _ (F : List ℕ) (l : Layout) (p : Part) where
-  pub counted_start : Within F l p → {none : Counts} → none.trees ≡ 0 → none.labels ≡ 0 → none.cases ≡ 0 → none.from_default ≡ None → Counted F l p none p
-  counted_start w {none} t m k d =
-      let e : none ≡ record { trees = 0; labels = 0; cases = 0; from_default = None } = same_counts t m k d in
-      rw e (record { whole = onto_start (trees F p); small = omega (arith, w.inside, w.known, w.sound.few); trees = omega arith; labels = omega arith; cases = omega arith })
-
   pub counted_done : {found : Counts} {left : Part} → Counted F l p found left → left.n ≡ 0 → found ≡ counts_of (trees F p)
   counted_done {found} {left} i h = sym (onto_none found) ∙ rw (trees_none F left h) at i.whole
 
   module _ {found : Counts} {left : Part} (i : Counted F l p found left) (some_left : 0 < left.n) where
-    pub counted_few : Few found
-    counted_few = record { trees = omega arith; labels = omega arith; cases = omega arith }
-
     pub counted_next : Within F l left → {rest : Part} → rest ≡ (node_of F l left).before → {x : Element} → x ≡ element_of (node_of F l left).root → {more : Counts} → more ≡ with_tree x found
         → Counted F l p more rest
     counted_next w {rest} e {x} q {more} s =
@@ -128,17 +113,11 @@ pub record Measured (F : List ℕ) (l : Layout) (p : Part) (count : ℕ) (left :
   pub small : p.n < 65536
   pub fewer : count + left.n ≤ p.n
 
-pub measured_start : (F : List ℕ) (l : Layout) (p : Part) → Within F l p → Measured F l p 0 p
-measured_start F l p w = record { whole = omega arith; small = omega (arith, w.inside, w.known, w.sound.few); fewer = omega arith }
-
 module _ {F : List ℕ} {l : Layout} {p : Part} {count : ℕ} {left : Part} (i : Measured F l p count left) where
   pub measured_done : left.n ≡ 0 → count ≡ meaning.width (trees F p)
   measured_done z = let w = rw (trees_none F left z) at i.whole in omega (arith, w)
 
   module _ (z : 0 < left.n) where
-    pub measured_few : count + 1 < 65536
-    measured_few = omega (arith, i.small, i.fewer)
-
     pub measured_next : Within F l left → {rest : Part} → rest ≡ (node_of F l left).before → Measured F l p (count + 1) rest
     measured_next v e =
         let g = is_node F l left v refl in

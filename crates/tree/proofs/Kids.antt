@@ -18,9 +18,6 @@ pub record KidInv (F : List ℕ) (l : Layout) (p : Part) (n : ℕ) (left : Part)
   pub within : Within F l left
   pub fewer : left.n ≤ p.n
 
-pub kid_start : (F : List ℕ) (l : Layout) (p : Part) (n : ℕ) → Within F l p → KidInv F l p n p 0
-kid_start F l p n w = let e : n - 0 ≡ n = omega arith in record { le = omega arith; meaning = rw e; means = rw e; within = w; fewer = omega arith }
-
 pub kid_on : {F : List ℕ} {l : Layout} {p : Part} {n : ℕ} {left : Part} {i : ℕ} → KidInv F l p n left i → i < n → {rest : Part} → rest ≡ (node_of F l left).before → KidInv F l p n rest (i + 1)
 kid_on {F} {l} {p} {n} {left} {i} v h e =
     let k = is_node F l left v.within refl in
@@ -33,9 +30,6 @@ kid_on {F} {l} {p} {n} {left} {i} v h e =
       within = k.rest_within;
       fewer = omega (arith, k.apart, v.fewer);
     })
-
-pub kid_found : {F : List ℕ} {l : Layout} {p : Part} {n : ℕ} {left : Part} {i : ℕ} → KidInv F l p n left i → n ≤ i → IsKid F l p n left
-kid_found {n = n} {i = i} v h = let o : n - i ≡ 0 = omega (arith, v.le) in record { meaning = rw o at v.meaning; means = rw o at v.means; within = v.within; fewer = v.fewer }
 
 pub list_found : {F : List ℕ} {l : Layout} {p kid : Part} {n : ℕ} → IsKid F l p n kid → {kids : Part} → kids ≡ (node_of F l kid).children → IsList F l p n kids
 list_found {F} {l} {p} {kid} {n} k e =

@@ -1,22 +1,21 @@
 -- What the trees of a part mean, by the part's node, and how many trees there can be.
 use Prim.Native.Nat.{ℕ, suc, ◌+◌, ◌≤◌}
-use mathlib.Core.Path.{◌≡◌, refl, ap, ◌∙◌}
-use mathlib.Core.List.{List, ◌∷◌, [], ◌++◌}
+use mathlib.Core.Path.{◌≡◌, refl, ◌∙◌}
+use mathlib.Core.List.{List}
 use native.Mathlib.Omega.{arith}
 use Rattle.std.specs.Prelude.{Option, None, Some, IfSome}
 use Rattle.hir.specs.Hir.{Rec}
 use Rattle.hir.specs.Tree.{Forest, more, count}
 use Rattle.hir.proofs.Laws.{map_count}
-use Rattle.pcode.specs.Pcode.{Param}
 use Rattle.script_records.specs.declared.layout.Layout.{Layout}
 use Rattle.script_records.specs.declared.part.Part.{Part}
 use Rattle.script_records.specs.Parts.{trees_in}
 use Rattle.script.proofs.WrittenRows.{forest_count}
 use Rattle.lowering.specs.Meaning as meaning
-use Rattle.lowering.specs.Meaning.{kid, list, width, param}
-use Rattle.lowering.specs.Statement.{meaning, meanings, params}
-use Rattle.lowering.proofs.Laws.{kid_law, list_law, width_law}
-use Rattle.list_slice.specs.File.{rec_in, params_of}
+use Rattle.lowering.specs.Meaning.{kid, list, width}
+use Rattle.lowering.specs.Statement.{meaning, meanings}
+use Rattle.lowering.proofs.Laws.{kid_law, list_law}
+use Rattle.list_slice.specs.File.{rec_in}
 use Rattle.tree.specs.declared.Node.{Node}
 use Rattle.tree.specs.Trees.{rows_in, trees, rec_of, is_labelled, is_case, labelled, cases, from_default_at, from_default_of}
 use Rattle.tree.specs.Within.{but_last, IsNode}
@@ -43,11 +42,6 @@ module _ (F : List ℕ) (l : Layout) (p : Part) {r : Node Part} (i : IsNode F l 
 
   pub list_next : (n : ℕ) → list (suc n) (meanings (trees F p)) ≡ list n (meanings (trees F r.before))
   list_next n = list_before n (trees F p) ∙ rw i.rest
-
-pub params_are : (f : Forest Rec) → params (meanings f) ≡ params_of f
-unfolding meanings params_of
-params_are Forest.none = refl
-params_are (more ps p kids) = ap (λ (s : List Param). s ++ (param p ∷ [])) (params_are ps)
 
 pub width_count : {A : Type 0} (f : Forest A) → width f ≤ count f
 unfolding count
@@ -85,9 +79,6 @@ module _ (F : List ℕ) (p : Part) where
   pub trees_count : count (trees F p) ≡ p.n
   unfolding trees
   trees_count = map_count (rec_in F) (trees_in (rows_in F) p) ∙ forest_count (rows_in F) p.end p.n
-
-  pub width_is : width (meanings (trees F p)) ≡ width (trees F p)
-  width_is = width_law (trees F p)
 
   pub width_less : width (trees F p) ≤ p.n
   width_less = let h = trees_count in omega (arith, width_count (trees F p))

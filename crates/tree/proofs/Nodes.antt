@@ -6,7 +6,7 @@ use mathlib.Core.Bool.{Bool, true, false, cond, ◌&&◌}
 use mathlib.Core.Option.{none, some, get_or}
 use lib.Dec.{T, leb, eqb}
 use native.Mathlib.Omega.{arith}
-use borrow.Author.Tests.{eqb-true, eqb-false, eq-eqb, ne_eqb, leb-true}
+use borrow.Author.Tests.{false-eqb, eqb-true, eqb-false, eq-eqb, ne_eqb, leb-true}
 use Rattle.hir.specs.Hir.{Str}
 use Rattle.hir.specs.Tree.{Forest, more, map_forest}
 use Rattle.hir.specs.declared.ExprKind.TheVariants as expr
@@ -31,13 +31,9 @@ use Rattle.tree.specs.declared.Node.{Node}
 use Rattle.tree.specs.Trees.{rows_in, trees, rec_of, made_node, no_node, node_of}
 use Rattle.tree.specs.Within.{Within, IsNode, live, record_named}
 
--- What `is_empty` answers, which is a test whether trees are left. The library's `eqb-true` and `eqb-false` have the test on the left, and say of the second
--- case no more than that it is not 0.
-pub no_trees : {n : ℕ} → true ≡ eqb n 0 → n ≡ 0
-no_trees {n} h = eqb-true n 0 (sym h)
-
+-- What `is_empty` answers where trees are left. The library's `false-eqb` says no more than that it is not 0.
 pub some_trees : {n : ℕ} → false ≡ eqb n 0 → 0 < n
-some_trees {n} h = omega (arith, eqb-false n 0 (sym h))
+some_trees {n} h = omega (arith, false-eqb n 0 h)
 
 module _ (F : List ℕ) (l : Layout) (p : Part) where
   pub node_none : p.n ≡ 0 → no_node p ≡ node_of F l p

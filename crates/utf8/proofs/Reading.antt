@@ -12,13 +12,14 @@ use lib.Dec.{eqb, leb, ltb}
 use lib.ListN.{length, get_or, drop, drop_of_length-le}
 use lib.Seq.{drop-cons}
 use borrow.Author.Tests.{eqb-true, eqb-false, leb-true, leb-false, ltb-true, ltb-false, le-leb, lt-leb, le-ltb, lt-ltb}
+use Rattle.std.proofs.lemmas.Simd.{get_or-chunk}
 use Rattle.std.specs.List.{list_all}
 use Rattle.std.proofs.Math.Bool.{and_assoc}
 use Rattle.std.specs.Prelude.{map, take, replicate, ◌%◌, ◌^◌}
 use Rattle.std.specs.Array.{IsFirstChunk}
 use Rattle.std.proofs.lemmas.Grind.{common_steps}
 use Rattle.std.proofs.lemmas.Simd.{none_from_empty_mask, tops_compared, mask_l-mod, zip2_splat_left}
-use Rattle.std.proofs.lemmas.List.{length-map, get_or-take, get_or-drop, drop-drop}
+use Rattle.std.proofs.lemmas.List.{length-map, get_or-take, drop-drop}
 use mir.Syntax.{w8}
 use lib.Lanes.{zip2, chunk, mask_l, top}
 use Rattle.utf8.specs.Utf8.{Range, ◌to◌, tail, chars, in_range, started, next, completes, utf8}
@@ -128,10 +129,6 @@ ascii_run s i (suc n) h a =
     let e : i + suc n ≡ i + n + 1 = omega arith in
     rw e (ascii_byte s (i + n) (omega arith) (a.each n (omega arith)) ∙ ascii_run s i n (omega arith) (record { each = λ k l. a.each k (omega arith) }))
 
--- A byte of a part of the bytes: the library has a lemma for `take` and one for `drop`, and none for a part.
-pub part_at : (s : List ℕ) (i n k : ℕ) → k < n → get_or (take n (drop i s)) k 0 ≡ get_or s (i + k) 0
-part_at s i n k h = get_or-take n (drop i s) k 0 h ∙ get_or-drop i s k 0
-
 -- the first eight bytes from a position on
 pub ascii_word : (s : List ℕ) (i : ℕ) {w : List ℕ} {n : ℕ} → IsFirstChunk (take (length s - i) (drop i s)) w 8 → n ≤ 8 → Ascii w 0 n → (i + n ≤ length s) × Ascii s i n
 ascii_word s i {w} {n} e h a =
@@ -140,7 +137,7 @@ ascii_word s i {w} {n} e h a =
       record {
         each = λ k l.
             let q : k < length s - i = omega arith in
-            let r : get_or (take 8 (take (length s - i) (drop i s))) k 0 ≡ get_or s (i + k) 0 = get_or-take 8 (take (length s - i) (drop i s)) k 0 (omega arith) ∙ part_at s i (length s - i) k q in
+            let r : get_or (take 8 (take (length s - i) (drop i s))) k 0 ≡ get_or s (i + k) 0 = get_or-take 8 (take (length s - i) (drop i s)) k 0 (omega arith) ∙ get_or-chunk i (length s - i) s k 0 q in
             let b : get_or w k 0 < 0x80 = rw zero-add at (a.each k l) in
             rw (← r, ← e.same) b;
       },

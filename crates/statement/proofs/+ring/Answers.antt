@@ -17,11 +17,12 @@ use Rattle.list_slice.specs.File.{text_in}
 use Rattle.codegen_state.proofs.Steps.{idle, stays}
 use Rattle.tree.specs.Within.{live, kid_at, list_at}
 use Rattle.tree.specs.Handle.{file_of}
-use Rattle.tree.proofs.Nodes.{is_node, no_trees}
+use borrow.Author.Tests.{true-eqb}
+use Rattle.tree.proofs.Nodes.{is_node}
 use Rattle.tree.proofs.Meanings.{width_less}
 use Rattle.operators.proofs.Shapes.{shape_is, literal_is, shape_named}
 use Rattle.builder.proofs.Body.{ready, function_done}
-use Rattle.access.proofs.Texts.{text_is}
+use Rattle.slice_words.proofs.Strings.{text_is}
 use Rattle.rows.specs.Rows.{loop_of}
 use Rattle.rows.proofs.Kept.{one_most}
 use Rattle.leaves.proofs.Args.{expr_at, args_again, args_stopped, args_done}
@@ -93,7 +94,7 @@ pub drag-returns : goal.drag-returns
 drag-returns t c = walks (built {d = c.gen_expr-2.new.context} (c.action_down-2.ensures (file_of c.args.t.now)).keeps.list (walked c.gen_expr-2.ensures (built {d = c.each.new.context} (keeps_then c.push-2.ensures.keeps c.push-3.ensures.keeps).list (walked c.each.ensures start)))) (drag_within_arm c.args.t.now.script.layout c.args.t.now.part (loop_of c.no_loop-idle.result) c.args.lock c.kid-target.ensures.kid c.list-es.ensures.list (eqb-false _ 0 (sym c.if-is_empty.ensures)) (rw c.list-es.ensures.script at c.each.ensures.does) (c.push-2.ensures.runs (file_of c.args.t.now) tt).does (rw (to_z-of_z w32 _ (record { sfits = c.from-bit.type_inv }), c.from-bit.ensures, bit_is c.args.lock) at (c.push-3.ensures.runs (file_of c.args.t.now) tt).does) (rw c.kid-target.ensures.script at c.gen_expr-2.ensures.does) (c.action_down-2.ensures (file_of c.args.t.now)).does)
 
 pub drag-returns-then-is_empty : goal.drag-returns-then-is_empty
-drag-returns-then-is_empty t c = walks (built {d = c.gen_expr.new.context} (c.action_down.ensures (file_of c.args.t.now)).keeps.list (walked c.gen_expr.ensures (built {d = c.args.context.now} (keeps_then c.push.ensures.keeps c.push-then-is_empty.ensures.keeps).list start))) (drag_arm c.args.t.now.script.layout c.args.t.now.part c.args.lock c.kid-target.ensures.kid c.list-es.ensures.list (no_trees c.if-is_empty.ensures) (c.push.ensures.runs (file_of c.args.t.now) tt).does (rw (to_z-of_z w32 _ (record { sfits = c.from-bit.type_inv }), c.from-bit.ensures, bit_is c.args.lock) at (c.push-then-is_empty.ensures.runs (file_of c.args.t.now) tt).does) (rw c.kid-target.ensures.script at c.gen_expr.ensures.does) (c.action_down.ensures (file_of c.args.t.now)).does)
+drag-returns-then-is_empty t c = walks (built {d = c.gen_expr.new.context} (c.action_down.ensures (file_of c.args.t.now)).keeps.list (walked c.gen_expr.ensures (built {d = c.args.context.now} (keeps_then c.push.ensures.keeps c.push-then-is_empty.ensures.keeps).list start))) (drag_arm c.args.t.now.script.layout c.args.t.now.part c.args.lock c.kid-target.ensures.kid c.list-es.ensures.list (true-eqb _ 0 c.if-is_empty.ensures) (c.push.ensures.runs (file_of c.args.t.now) tt).does (rw (to_z-of_z w32 _ (record { sfits = c.from-bit.type_inv }), c.from-bit.ensures, bit_is c.args.lock) at (c.push-then-is_empty.ensures.runs (file_of c.args.t.now) tt).does) (rw c.kid-target.ensures.script at c.gen_expr.ensures.does) (c.action_down.ensures (file_of c.args.t.now)).does)
 
 pub each-bounds-scratch-top : goal.each-bounds-scratch-top
 each-bounds-scratch-top t c = pop_inside c.loop-top.invariant.0 c.loop-top-test.true
@@ -153,7 +154,7 @@ pub ends-returns : goal.ends-returns
 ends-returns t c = walks (built {d = c.gen_expr.new.context} (keeps_then (c.action.ensures (file_of c.args.t.now)).keeps (c.branch-context.ensures (file_of c.args.t.now)).keeps).list (walked c.gen_expr.ensures (walked c.each.ensures start))) (ends_arm c.args.t.now.script.layout c.args.t.now.part (loop_of c.no_loop-idle.result) c.args.end.0 (is_node _ _ _ c.args.t.now.within refl) (eqb-false _ 0 (sym c.if-is_empty.ensures)) (rw (c.rest-before.ensures.script, c.rest-before.ensures.part) at c.each.ensures.does) c.gen_expr.ensures.does (c.action.ensures (file_of c.args.t.now)).does (c.branch-context.ensures (file_of c.args.t.now)).does)
 
 pub ends-returns-then-is_empty : goal.ends-returns-then-is_empty
-ends-returns-then-is_empty t c = walks start (rw (none_at (file_of c.args.t.now) c.args.t.now.part (no_trees c.if-is_empty.ensures)) (idle c.args.context.now.builder.fine))
+ends-returns-then-is_empty t c = walks start (rw (none_at (file_of c.args.t.now) c.args.t.now.part (true-eqb _ 0 c.if-is_empty.ensures)) (idle c.args.context.now.builder.fine))
 
 pub exit-invariant_of-context : goal.exit-invariant_of-context
 exit-invariant_of-context t c = record { laid_out = c.args.context.now.laid_out; indexed = index_stays (keeps_then c.push.ensures.keeps (c.action.ensures (file_of c.args.t.now)).keeps).pool c.args.context.now.indexed }
@@ -165,7 +166,7 @@ pub exit-returns : goal.exit-returns
 exit-returns t c = walks (built {d = c.each.new.context} (c.action-2.ensures (file_of c.args.t.now)).keeps.list (walked c.each.ensures start)) (values_arm c.args.t.now.script.layout c.args.t.now.part (loop_of c.no_loop-idle.result) c.list-es.ensures.list (eqb-false _ 0 (sym c.if-is_empty.ensures)) c.args.o (rw c.list-es.ensures.script at c.each.ensures.does) (c.action-2.ensures (file_of c.args.t.now)).does)
 
 pub exit-returns-then-is_empty : goal.exit-returns-then-is_empty
-exit-returns-then-is_empty t c = walks (built {d = c.args.context.now} (keeps_then c.push.ensures.keeps (c.action.ensures (file_of c.args.t.now)).keeps).list start) (no_values_arm c.args.t.now.script.layout c.args.t.now.part c.list-es.ensures.list (no_trees c.if-is_empty.ensures) c.args.o (c.push.ensures.runs (file_of c.args.t.now) tt).does (c.action.ensures (file_of c.args.t.now)).does)
+exit-returns-then-is_empty t c = walks (built {d = c.args.context.now} (keeps_then c.push.ensures.keeps (c.action.ensures (file_of c.args.t.now)).keeps).list start) (no_values_arm c.args.t.now.script.layout c.args.t.now.part c.list-es.ensures.list (true-eqb _ 0 c.if-is_empty.ensures) c.args.o (c.push.ensures.runs (file_of c.args.t.now) tt).does (c.action.ensures (file_of c.args.t.now)).does)
 
 pub for_expr-each-requires : goal.for_expr-each-requires
 for_expr-each-requires t c = (omega (arith, c.decreases, c.requires.fits, (is_node _ _ _ c.args.t.now.within c.node-node.ensures.node).apart, (is_node _ _ _ c.args.t.now.within c.node-node.ensures.node).real, field_live c.node-node.result.root (sym c.from.ensures ∙ c.in-Field.is)), (walk start (c.requires.script ∙ sym c.node-node.ensures.children) (omega (arith, c.requires.fits, (is_node _ _ _ c.args.t.now.within c.node-node.ensures.node).apart, (is_node _ _ _ c.args.t.now.within c.node-node.ensures.node).real, field_live c.node-node.result.root (sym c.from.ensures ∙ c.in-Field.is))), omega (arith, c.requires.fits, (is_node _ _ _ c.args.t.now.within c.node-node.ensures.node).apart, (is_node _ _ _ c.args.t.now.within c.node-node.ensures.node).real, field_live c.node-node.result.root (sym c.from.ensures ∙ c.in-Field.is), c.args.t.now.within.known, c.args.t.now.within.sound.few, c.args.t.now.within.inside)))

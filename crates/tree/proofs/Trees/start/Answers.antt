@@ -2,12 +2,13 @@ use mathlib.Core.Path.{ap}
 use native.Mathlib.Omega.{arith}
 use Rattle.script_records.specs.declared.layout.Row.{Row}
 use Rattle.script_records.specs.declared.part.Part.{Part}
+use borrow.Author.Tests.{true-eqb}
 use Rattle.tree.proofs.ByKind.{rest_none}
-use Rattle.tree.proofs.Nodes.{no_trees, some_trees, size_most, rest_is}
+use Rattle.tree.proofs.Nodes.{some_trees, size_most, rest_is}
 use Rattle.tree.proofs.Trees.start.Goals as goal
 
 pub returns-then-is_empty : goal.returns-then-is_empty
-returns-then-is_empty c = ap (λ (p : Part). p.end) (rest_none _ _ _ (no_trees c.if-is_empty.ensures))
+returns-then-is_empty c = ap (λ (p : Part). p.end) (rest_none _ _ _ (true-eqb _ 0 c.if-is_empty.ensures))
 
 pub overflow_sub-result : goal.overflow_sub-result
 overflow_sub-result c =
