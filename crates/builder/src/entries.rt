@@ -72,7 +72,7 @@ pub(crate) fn grow_marked(list: &mut [u32], state: &mut BuilderState, label: u32
     list[LABELS_AT + label as usize] = 1;
 }
 
-// The entry of the first value of a Push; a later one has a higher code.
+// The entry of the first value of a Push; a later one has a higher code. A function: neither type is of this crate.
 pub(crate) fn value_entry(v: PushValue) -> Entry
     ensures { IsValue v result }
 {

@@ -64,7 +64,7 @@ fn ends_but<'a, F: Fn(Trees<'a>) -> bool>(
 }
 
 // Of a switch's elements those before the first Case or Default generate nothing: they are taken from the top. The answer is how many are left, of which 0 is
-// one.
+// one. A loop, and no `rposition`, whose closure would have to require that a tree ends there: the loop's invariant says it at each turn.
 fn from_label(row: &Trees, ends: &[usize], lp: Loop) -> usize
     requires { KeptOf (file_of row.now) row.now.script.layout Each.Element (loop_of lp) row.now.part ends.now (length ends.now) }
     ensures few { result ≤ length ends.now }
