@@ -39,6 +39,7 @@ fn first_label(row: &Trees) -> usize
     end
 }
 
+// That the closure may be called is asked wherever one is taken.
 // How many trees there are that do not end before record `stop`, but those that are left out. Where each of them ends is left in `scratch`, the last lowest.
 fn ends_but<'a, F: Fn(Trees<'a>) -> bool>(
     row: &Trees<'a>,
