@@ -29,6 +29,7 @@ pub fn refused_with(state: BuilderState, stop: Stop) -> BuilderState
     }
 }
 
+// The slice and the counts are handed apart, here and below: between the writes what a CodeBuilder has as its ghost field doesn't hold.
 // One entry more in the list under construction: so many actions, values and marks more, and this stack size. No two of the four calls add the same ones, so that
 // the numbers say it as well as an enum of the calls would.
 pub fn grow(
@@ -72,7 +73,7 @@ pub(crate) fn grow_marked(list: &mut [u32], state: &mut BuilderState, label: u32
     list[LABELS_AT + label as usize] = 1;
 }
 
-// The entry of the first value of a Push; a later one has a higher code.
+// The entry of the first value of a Push; a later one has a higher code. A function: neither type is of this crate.
 pub(crate) fn value_entry(v: PushValue) -> Entry
     ensures { IsValue v result }
 {

@@ -11,7 +11,7 @@ pub returns-then-self-ge-MAX_ACTIONS : goal.returns-then-self-ge-MAX_ACTIONS
 returns-then-self-ge-MAX_ACTIONS c = record { keeps = kept refl; ends = λ F n e. record { keeps = kept refl; ends = end_full F _ _ _ _ _ (sym c.if-is_some.ensures) c.if-self-ge-MAX_ACTIONS.true c.args.self.now.fine } }
 
 pub invariant_of-self-2 : goal.invariant_of-self-2
-invariant_of-self-2 c = record { fine = closed_fine c.args.self.now.fine (sym c.if-is_some.ensures) c.if-self-ge-MAX_ACTIONS.false c.requires.ready c.requires.up_bound c.close.ensures }
+invariant_of-self-2 c = record { fine = closed_fine c.args.up c.args.self.now.fine (sym c.if-is_some.ensures) c.if-self-ge-MAX_ACTIONS.false c.requires c.close.ensures }
 
 pub returns : goal.returns
 returns c =
@@ -20,6 +20,6 @@ returns c =
       keeps = same;
       ends = λ F n e. record {
         keeps = same;
-        ends = closed_ends c.args.self.now.fine (sym c.if-is_some.ensures) c.if-self-ge-MAX_ACTIONS.false c.requires.ready c.requires.up_bound c.close.ensures F n e;
+        ends = closed_ends c.args.up c.args.self.now.fine (sym c.if-is_some.ensures) c.if-self-ge-MAX_ACTIONS.false c.requires c.close.ensures F n e;
       };
     }
