@@ -66,8 +66,8 @@ fn open_start(s: &[u8], i: usize) -> usize
 }
 
 // The same. Most often no char is open; that this is a branch lets the processor go on before it has the bytes. With one function for both, with the branch
-// or without, 1 MiB of text with each two-hundredth char of two bytes takes 80 microseconds, and 74 so: 8 in a hundred more, where Rascal takes 4 in a hundred
-// more (docs/SPEED.md).
+// or without, 1 MiB of text with each two-hundredth char of two bytes takes 80 microseconds, and 74 so: 8 in a hundred more, where Rascal's time is 4 in a
+// hundred above this one (docs/SPEED.md: 61.4 and 59.2).
 fn last_start(s: &[u8], i: usize) -> usize
     requires { i + 3 ≤ length s.now }
     ensures { result ≡ last_start s.now i }
