@@ -48,7 +48,8 @@ fn leading(bytes: &[u8; 8]) -> usize
     highest.trailing_zeros() as usize / 8
 }
 
-// Where the ASCII ends, eight bytes at a time. With a `for` over `as_chunks` in place of the `while`, strings of 8 and of 20 bytes take an eighth more.
+// Where the ASCII ends, eight bytes at a time. With a `for` over `as_chunks` in place of the `while`, 130,000 strings of four chars of two bytes take 1.90 ms,
+// and 1.68 so: 13 in a hundred more, which is all that Rascal's time for such strings is above this one (docs/SPEED.md: 880 and 780).
 pub fn eights(s: &[u8], start: usize) -> usize
     requires { start ≤ length s.now }
     ensures { Passed s.now start result }

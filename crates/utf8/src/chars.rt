@@ -7,7 +7,7 @@ ghost use Rattle.utf8.specs.Chars.{second, firsts, Stands, Ran};
 pub fn within(b: u8, low: u8, high: u8) -> bool
     ensures { result ≡ in_range b (low to high) }
 {
-    low <= b && b <= high
+    (low..=high).contains(&b)
 }
 
 // The lowest byte that can stand after a first byte: others would be overlong forms. A sum, so that the compiler can do this for many bytes at once. The

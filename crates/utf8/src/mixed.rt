@@ -12,17 +12,7 @@ fn is_first(b: u8) -> bool
     b < 0x80 || within(b, 0xC2, 0xF4)
 }
 
-// Whether a char is open after three bytes. One comparison for the three of them, so that the compiler can do this for many bytes at once: with `is_open` in
-// its place, 1 MiB of wide chars takes 330 microseconds, and 312 so. A struct of the three bytes would be made anew at each position.
-fn is_owed(third: u8, prior: u8, last: u8) -> bool
-    ensures { result ≡ owes third prior last }
-{
-    let two = prior.saturating_sub(0x20).max(third.saturating_sub(0x30));
-    0xC0 <= last.max(two)
-}
-
-// The same for one position, where it is nearly always the same answer. With `is_owed` in its place, 1 MiB in strings of four chars of four bytes takes
-// 1.56 ms, and 1.37 so.
+// Whether a char is open after three bytes.
 fn is_open(third: u8, prior: u8, last: u8) -> bool
     ensures { result ≡ owes third prior last }
 {
@@ -35,7 +25,7 @@ fn may_follow(third: u8, prior: u8, last: u8, b: u8) -> bool
 {
     let goes_on = is_second(last, b);
     let starts = is_first(b);
-    if is_owed(third, prior, last) {
+    if is_open(third, prior, last) {
         goes_on
     } else {
         starts
@@ -75,8 +65,9 @@ fn open_start(s: &[u8], i: usize) -> usize
     i + 3
 }
 
-// The same. Most often no char is open; that this is a branch lets the processor go on before it has the bytes. With `open_start` alone, 1 MiB in strings of
-// 20 bytes with a char of two takes 797 microseconds, and 756 so.
+// The same. Most often no char is open; that this is a branch lets the processor go on before it has the bytes. With one function for both, with the branch
+// or without, 1 MiB of text with each two-hundredth char of two bytes takes 80 microseconds, and 74 so: 8 in a hundred more, where Rascal's time is 4 in a
+// hundred above this one (docs/SPEED.md: 61.4 and 59.2).
 fn last_start(s: &[u8], i: usize) -> usize
     requires { i + 3 ≤ length s.now }
     ensures { result ≡ last_start s.now i }
