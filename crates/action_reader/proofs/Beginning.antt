@@ -237,10 +237,8 @@ module _ (bs : Bor Bytes) (w : List ℕ) (ss : List Str) (r : Bytes) (q : read_r
 
   begin_noted : Noted s [] (pool_at_lem ss ∷ [])
   begin_noted = record {
-    long = length-replicate {A = ℕ} 1024 0;
     table = refl;
     first = refl;
-    places = omega arith;
     few = omega arith;
     rising = λ i j a x y. absurd (omega arith);
     below = λ i a. let first : i ≡ 0 = omega arith in rw first (omega (arith, n, ra.later));

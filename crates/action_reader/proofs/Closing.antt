@@ -29,7 +29,7 @@ use Rattle.action_reader.proofs.Weights.{total_append}
 use Rattle.action_reader.proofs.Slice.{layout_end}
 use Rattle.action_reader.proofs.Holding.{held_close, nothing_read}
 use Rattle.action_reader.proofs.Standing.{given_list, ends_many, laid_close, joined_last, ends_last, settled_is}
-use Rattle.action_reader.proofs.Notes.{positions_are, own_ordered, first_filled, own_position, noted_close, span_kept, kept_close}
+use Rattle.action_reader.proofs.Notes.{table_length, positions_are, own_ordered, first_filled, own_position, noted_close, span_kept, kept_close}
 use Rattle.action_reader.proofs.Verdict as verdict
 use Rattle.action_reader.proofs.Stepping.{limits, numbers, upward_less}
 
@@ -41,9 +41,8 @@ ready h = record {
   room = (numbers h).room;
   whole = (numbers h).whole;
   cap = (numbers h).cap;
-  from = omega (arith, h.noted.places);
+  from = omega (arith, table_length h.noted);
   few = (numbers h).places_few;
-  in_table = omega (arith, h.noted.long, (numbers h).places_few);
   ordered = own_ordered h.noted;
   more = (numbers h).lists_few;
 }
@@ -109,7 +108,7 @@ module _ {w : List ℕ} {s : Walk} (h : Stands s.bytes.now w s) (at_end : s.at �
               held = held_close x new at_end lands-all refl (ap (λ (v : Span). v.end) sp) refl refl refl;
               laid = laid_close l (numbers h).sum z' long (positions_are m) (own_position m) refl refl
                   (omega (arith, ap (λ (v : Span). v.base) sp, l.base, length-append (raw g.around) (upper fs))) refl refl refl;
-              noted = noted_close m (suc (length h.lists)) new refl (ap (λ (v : Span). v.first) sp) refl refl refl;
+              noted = noted_close m (suc (length h.lists)) new refl (ap (λ (v : Span). v.first) sp) refl refl;
               kept = kept_close k new refl refl;
             };
             less = upward_less s new refl refl (omega arith);

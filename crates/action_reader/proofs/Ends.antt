@@ -34,7 +34,7 @@ module _ {w : List ℕ} {s : Walk} (h : Ready w s) {low xs up : List Entry} {end
   }
 
   pub close_law : {k : ℕ} {w₁ : List ℕ} → Moved s low xs up (ends ++ (k ∷ [])) k w₁ → 0 < s.span.base → {r : Walk} → r ≡ close_after s k → {w₂ : List ℕ} →
-      w₂ ≡ put3 w₁ (s.span.base - 1) 256 (s.lists + 1) (get_or s.table (s.span.first - 1) 0) → Closed low xs up ends s r w₂
+      w₂ ≡ put3 w₁ (s.span.base - 1) 256 (s.lists + 1) (get_or s.table.items (s.span.first - 1) 0) → Closed low xs up ends s r w₂
   close_law {k} {w₁} x b q {w₂} z = record {
     landed = x.landed;
     state = q ∙ ap (close_after s) x.low_is;
@@ -45,7 +45,7 @@ module _ {w : List ℕ} {s : Walk} (h : Ready w s) {low xs up : List Entry} {end
   }
     where
       p : ℕ
-      p = get_or s.table (s.span.first - 1) 0
+      p = get_or s.table.items (s.span.first - 1) 0
 
       room : length done + suc (length up) ≤ 4096
       room = omega (arith, done_length, g.low_is, g.up_is, g.own_is, h.room)

@@ -110,8 +110,8 @@ module _ {w : List ℕ} {s : Walk} (h : Stands s.bytes.now w s) where
     pub room : s.low < s.top
     pub whole : s.top ≤ s.span.base
     pub cap : s.span.base ≤ 4096
-    pub places_few : s.places ≤ 1024
-    pub places_less : s.actions < 1024 → s.places < 1024
+    pub places_few : length s.table.items ≤ 1024
+    pub places_less : s.actions < 1024 → length s.table.items < 1024
     pub near : s.at < 67200000
     pub depth_few : s.depth < 1024
     pub lists_few : s.lists < 1024
@@ -217,7 +217,7 @@ module _ {w : List ℕ} {s : Walk} (h : Stands s.bytes.now w s) where
         lists = h.lists;
         held = held_single h.held a r (single_after s next) e n rest_is next_inside q.short good few refl refl (omega (arith, v)) h.held.few_values refl;
         laid = laid_single h.laid numbers.sum (at (single a) s.at) c f 0 entries_are x (single_after s next) refl refl refl refl refl refl;
-        noted = noted_single h.noted (numbers.places_less few) (at (single a) s.at) refl (single_after s next) refl later refl refl refl;
+        noted = noted_single h.noted (at (single a) s.at) refl (single_after s next) refl later refl refl;
         kept = kept_same h.kept (single_after s next) refl refl;
       };
       less = forward_less s (single_after s next) refl later (omega (arith, next_inside, end_inside)) (omega arith);
@@ -255,7 +255,7 @@ module _ {w : List ℕ} {s : Walk} (h : Stands s.bytes.now w s) where
         laid = laid_push h.laid (at (push vs) s.at) (value_entries (s.at + 3) vs) refl long
             ((pushed vs).words values_there (joined (map settled h.lists)) (raw h.own ++ upper fs) (ends_from 0 (map settled h.lists)) h.laid.words up_length (omega (arith, room_left, h.laid.low)))
             (push_after s m next) m (entries_length (s.at + 3) vs ∙ c) (omega (arith, room_left)) refl refl refl refl refl refl;
-        noted = noted_single h.noted (numbers.places_less few) (at (push vs) s.at) refl (push_after s m next) refl push_later refl refl refl;
+        noted = noted_single h.noted (at (push vs) s.at) refl (push_after s m next) refl push_later refl refl;
         kept = kept_same h.kept (push_after s m next) refl refl;
       };
       less = forward_less s (push_after s m next) refl push_later (omega (arith, push_inside, end_inside)) (omega arith);
@@ -289,7 +289,7 @@ module _ {w : List ℕ} {s : Walk} (h : Stands s.bytes.now w s) where
         lists = h.lists;
         held = held_open h.held x size r (open_after s size next) e n header_rest (omega (arith, header_inside)) end_inside q.short good few refl refl refl refl;
         laid = laid_open h.laid g refl (open_after s size next) refl refl refl refl refl refl;
-        noted = noted_open h.noted (numbers.places_less few) g refl refl (open_after s size next) refl header_later refl refl refl;
+        noted = noted_open h.noted g refl refl (open_after s size next) refl header_later refl refl;
         kept = kept_open h.kept g refl (omega (arith, h.laid.base)) h.noted.first numbers.depth_few (open_after s size next) refl refl;
       };
       less = forward_less s (open_after s size next) refl header_later (omega (arith, header_inside, end_inside)) (omega arith);

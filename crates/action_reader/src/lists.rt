@@ -31,7 +31,7 @@ impl Walk<'_> {
         ensures low_bound { IfSome result (λ n. n ≤ 4096) }
         ensures settled_as { (low xs up : List Entry) (ends : List ℕ) → Given list.old self.now low xs up ends → SettledAs self.now low xs up ends result list.new }
     {
-        let positions = &self.table[self.span.first..self.places];
+        let positions = &self.table[self.span.first..];
         let mut low = self.low;
         for top in self.top..self.span.base {
             let at = top * 3;
@@ -66,8 +66,8 @@ impl Walk<'_> {
         self.low = self.end_list(list)?;
         self.lists += 1;
         self.top = self.span.base - 1;
-        self.places = self.span.first;
-        let position = self.table[self.places - 1];
+        let position = self.table[self.span.first - 1];
+        self.table.truncate(self.span.first);
         put(list, self.top, code::FUNCTION, self.lists as u32, position);
         self.depth -= 1;
         self.span = self.outer[self.depth];

@@ -3,6 +3,7 @@ ghost use Rattle.std.specs.Prelude.{◌≡◌, ◌+◌, ◌-◌, ◌<◌, ◌≤
 ghost use Rattle.builder.specs.Entries.{put3};
 ghost use Rattle.action_reader.specs.State.{advanced, single_after, open_after, Roomy, is_over};
 
+use arrayvec::ArrayVec;
 use builder::entries::put;
 
 // The most actions and pushed values of the lists, as counts of what the walk holds.
@@ -31,10 +32,9 @@ pub struct Walk<'a> {
     pub low: usize,
     pub top: usize,
     pub lists: usize,
-    pub places: usize,
     pub depth: usize,
     pub pool: usize,
-    pub table: [u32; MAX_ACTIONS],
+    pub table: ArrayVec<u32, MAX_ACTIONS>,
     pub outer: [Span; MAX_ACTIONS],
 }
 
@@ -52,10 +52,9 @@ impl Walk<'_> {
         requires { Roomy self.old }
         ensures { self.new ≡ advanced self.old next }
     {
-        self.table[self.places] = self.at as u32;
+        self.table.push(self.at as u32);
         self.at = next;
         self.actions += 1;
-        self.places += 1;
     }
 
     // An action of one entry, whose record ends before `next`. Its code is a word of the list slice, which programs in other languages read, and so a number.
@@ -85,7 +84,7 @@ impl Walk<'_> {
         self.span = Span {
             end: next + size,
             base: self.top,
-            first: self.places,
+            first: self.table.len(),
         };
         self.depth += 1;
     }
