@@ -1,13 +1,11 @@
 -- The table of positions and the kept ends, after each step.
-use Prim.Native.Nat.{ℕ, suc, ◌+◌, ◌-◌, ◌≤◌, ◌<◌}
+use Prim.Native.Nat.{ℕ, suc, ◌+◌, ◌-◌, ◌<◌}
 use mathlib.Core.Path.{◌≡◌, refl, sym, ap, ◌∙◌}
 use mathlib.Core.List.{List, [], ◌∷◌, ◌++◌, append_assoc, append-nil}
 use native.Mathlib.Omega.{arith}
 use native.Mathlib.Decide.{dec_lt}
-use native.Mathlib.Numerals.{add-one}
-use lib.ListN.{length, get_or, set, take, drop, get_or-append, length-append, length-map, length-set, length-take}
-use lib.Seq.{take-suc-set, get_or-set_same, get_or-set_other, get_or-take, take-take, take_at, drop-append_seam, get_or-append_seam}
-use Rattle.std.proofs.lemmas.List.{drop-take}
+use lib.ListN.{length, get_or, take, get_or-append, length-append, length-map, length-take}
+use lib.Seq.{get_or-take, take_at, drop-append_seam, get_or-append_seam}
 use Rattle.list_slice.specs.Read.{Placed}
 use Rattle.list_slice.proofs.Read.{map_append}
 use Rattle.action_reader.specs.declared.walk.Span.{Span}
@@ -15,12 +13,8 @@ use Rattle.action_reader.specs.declared.walk.Walk.{Walk}
 use Rattle.action_reader.specs.Walk.{ended_at, Open, defined, bounds}
 use Rattle.action_reader.specs.Places.{Ordered, Rises}
 use Rattle.action_reader.specs.Lists.{positions_of}
-use Rattle.action_reader.specs.State.{no_span}
+use Rattle.action_reader.specs.State.{depth, no_span}
 use Rattle.action_reader.specs.View.{positions, upper, marks, saves, Noted, Kept}
-
--- The library's `take_at` is of a list that is split at its seam; this is of one whose longer front is.
-take_of_front : {A : Type 0} (n : ℕ) (xs ys : List A) (t : List A) (m : ℕ) → n ≤ m → take m t ≡ xs ++ ys → length xs ≡ n → take n t ≡ xs
-take_of_front n xs ys t m h e l = sym (take-take n m t h) ∙ rw e (take_at xs ys n l)
 
 module _ {s : Walk} {fs : List Open} {own : List Placed} (h : Noted s fs own) where
   pub table_length : length own + s.span.first ≡ length s.table.items
@@ -127,29 +121,19 @@ saves_length [] = refl
 saves_length (f ∷ fs) = rw (length-append (saves fs) (span_of f fs ∷ []), saves_length fs) (omega arith)
 
 module _ {s : Walk} {fs : List Open} (h : Kept s fs) where
-  pub kept_same : (s' : Walk) → s'.depth ≡ s.depth → s'.outer ≡ s.outer → Kept s' fs
-  kept_same s' e o = record { long = rw o h.long; saved = rw (e, o) h.saved; depth = rw e h.depth }
+  pub kept_depth : length fs ≡ depth s
+  kept_depth = sym (saves_length fs) ∙ ap length (sym h.saved)
 
-  pub kept_open : (g : Open) → g.stop ≡ s.span.end → 4096 - length (upper fs) ≡ s.span.base → length (marks fs) ≡ s.span.first → s.depth < 1024 →
-      (s' : Walk) → s'.depth ≡ s.depth + 1 → s'.outer ≡ set s.outer s.depth s.span → Kept s' (g ∷ fs)
-  kept_open g stop_is base_is first_is few s' depth_is q = record {
-    long = rw (q, length-set) h.long;
-    saved = rw (q, depth_is, add-one s.depth, take-suc-set s.outer s.depth s.span (omega (arith, h.long)), h.saved, stop_is, base_is, first_is);
-    depth = omega (arith, h.depth);
-  }
+  pub kept_open : (g : Open) → g.stop ≡ s.span.end → 4096 - length (upper fs) ≡ s.span.base → length (marks fs) ≡ s.span.first →
+      s.outer.items ++ (s.span ∷ []) ≡ saves (g ∷ fs)
+  kept_open g stop_is base_is first_is = rw (h.saved, stop_is, base_is, first_is)
 
 module _ {s : Walk} {g : Open} {fs : List Open} (h : Kept s (g ∷ fs)) where
-  around_is : s.depth - 1 ≡ length (saves fs)
-  around_is = rw (saves_length fs) (omega (arith, h.depth))
+  around_is : depth s - 1 ≡ length (saves fs)
+  around_is = omega (arith, ap length h.saved, length-append (saves fs) (span_of g fs ∷ []))
 
-  pub span_kept : get_or s.outer (s.depth - 1) no_span ≡ span_of g fs
-  span_kept =
-      let f : s.depth - 1 < s.depth = omega (arith, h.depth) in
-      rw (← get_or-take s.depth s.outer (s.depth - 1) no_span f, h.saved, around_is) (get_or-append_seam (saves fs) (span_of g fs) [] no_span)
+  pub span_kept : get_or s.outer.items (depth s - 1) no_span ≡ span_of g fs
+  span_kept = rw (around_is, h.saved) (get_or-append_seam (saves fs) (span_of g fs) [] no_span)
 
-  pub kept_close : (s' : Walk) → s'.depth ≡ s.depth - 1 → s'.outer ≡ s.outer → Kept s' fs
-  kept_close s' e o = record {
-    long = rw o h.long;
-    saved = rw (e, o) (take_of_front (s.depth - 1) (saves fs) (span_of g fs ∷ []) s.outer s.depth (omega arith) h.saved (sym around_is));
-    depth = omega (arith, h.depth);
-  }
+  pub kept_close : take (depth s - 1) s.outer.items ≡ saves fs
+  kept_close = rw (around_is, h.saved) (take_at (saves fs) (span_of g fs ∷ []) (length (saves fs)) refl)

@@ -82,9 +82,7 @@ pub record Noted (s : Walk) (fs : List Open) (own : List Placed) : Type 0 where
   pub below : (i : ℕ) → i < length s.table.items → get_or s.table.items i 0 < s.at
 
 pub record Kept (s : Walk) (fs : List Open) : Type 0 where
-  pub long : length s.outer ≡ 1024
-  pub saved : take s.depth s.outer ≡ saves fs
-  pub depth : length fs ≡ s.depth
+  pub saved : s.outer.items ≡ saves fs
 
 pub record Stands (b w : List ℕ) (s : Walk) : Type 0 where
   pub strings : List Str

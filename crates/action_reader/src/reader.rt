@@ -4,7 +4,7 @@ ghost use Rattle.list_slice.specs.Words.{zeros_of};
 ghost use Rattle.action_reader.specs.Walked.{OrRefused, Done};
 
 use crate::begin::begin;
-use crate::walk::{MAX_ACTIONS, Span, Walk};
+use crate::walk::{Span, Walk};
 use arrayvec::ArrayVec;
 use slice_words::MAX_ENTRIES;
 
@@ -31,10 +31,9 @@ pub fn read_lists(bytes: &[u8], list: &mut [u32]) -> Option<()>
         low: 0,
         top: MAX_ENTRIES - 1,
         lists: 0,
-        depth: 0,
         pool,
         table,
-        outer: [Span::default(); MAX_ACTIONS],
+        outer: ArrayVec::new(),
     };
     while !walk.is_over() {
         walk.step(list)?;

@@ -1,7 +1,7 @@
 // Where reading is, and the steps that one record makes.
 ghost use Rattle.std.specs.Prelude.{◌≡◌, ◌+◌, ◌-◌, ◌<◌, ◌≤◌, length};
 ghost use Rattle.builder.specs.Entries.{put3};
-ghost use Rattle.action_reader.specs.State.{advanced, single_after, open_after, Roomy, is_over};
+ghost use Rattle.action_reader.specs.State.{advanced, single_after, open_after, Roomy, depth, is_over};
 
 use arrayvec::ArrayVec;
 use builder::entries::put;
@@ -32,10 +32,9 @@ pub struct Walk<'a> {
     pub low: usize,
     pub top: usize,
     pub lists: usize,
-    pub depth: usize,
     pub pool: usize,
     pub table: ArrayVec<u32, MAX_ACTIONS>,
-    pub outer: [Span; MAX_ACTIONS],
+    pub outer: ArrayVec<Span, MAX_ACTIONS>,
 }
 
 // What moves on needs room for one more action (`Roomy`). It is no fact of every walk: one that is full stands, and is refused at the next record.
@@ -44,7 +43,7 @@ impl Walk<'_> {
     pub fn is_over(&self) -> bool
         ensures { result ≡ is_over self.now }
     {
-        self.depth == 0 && matches!(self.bytes.get(self.at..), Some([0]))
+        self.outer.is_empty() && matches!(self.bytes.get(self.at..), Some([0]))
     }
 
     // An action's record, which ends before `next`: its position joins the table.
@@ -74,18 +73,18 @@ impl Walk<'_> {
 
     // A function's body is the present list from now on.
     pub fn open_body(&mut self, size: usize, next: usize)
-        requires depth_bound { self.old.depth < 1024 }
+        requires depth_bound { depth self.old < 1024 }
         requires roomy { Roomy self.old }
-        requires size_bound { next + size ≤ self.old.span.end }
+        requires size_bound { next + size ≤ length self.old.bytes.now }
         ensures { self.new ≡ open_after self.old size next }
     {
         self.advance(next);
-        self.outer[self.depth] = self.span;
+        let around = self.span;
         self.span = Span {
             end: next + size,
             base: self.top,
             first: self.table.len(),
         };
-        self.depth += 1;
+        self.outer.push(around);
     }
 }
