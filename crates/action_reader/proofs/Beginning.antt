@@ -6,7 +6,7 @@ use mathlib.Core.Bool.{Bool, true, false, ◌&&◌, true≢false}
 use mathlib.Core.Option.{Option, none, some}
 use native.Mathlib.Omega.{arith}
 use lib.Dec.{T}
-use lib.ListN.{length, take, length-replicate}
+use lib.ListN.{length, take}
 use lib.Seq.{take_all}
 use Rattle.std.proofs.Common.{Some, None, Bor}
 use Rattle.hir.specs.Hir.{Str}
@@ -33,10 +33,9 @@ use Rattle.record_reader.specs.declared.Head.{Head}
 use Rattle.record_reader.specs.Heads.{record_kind, record_holds_in, head_at}
 use Rattle.record_reader.proofs.Laws.{RecordAt}
 use Rattle.record_reader.proofs.ReadFacts.{record_no_zeros}
-use Rattle.action_reader.specs.declared.walk.Span.{Span}
 use Rattle.action_reader.specs.declared.walk.Walk.{Walk}
 use Rattle.action_reader.specs.Walk.{Spread, spread, spread_of, finish, resume, raw, fixed, sure, fixed_list, sure_list}
-use Rattle.action_reader.specs.State.{no_span, fresh_walk}
+use Rattle.action_reader.specs.State.{fresh_walk}
 use Rattle.action_reader.specs.View.{Held, Laid, Noted, Stands}
 use Rattle.action_reader.proofs.Steps.{step_single}
 use Rattle.action_reader.proofs.Slice.{layout_start, grows}
@@ -237,10 +236,8 @@ module _ (bs : Bor Bytes) (w : List ℕ) (ss : List Str) (r : Bytes) (q : read_r
 
   begin_noted : Noted s [] (pool_at_lem ss ∷ [])
   begin_noted = record {
-    long = length-replicate {A = ℕ} 1024 0;
     table = refl;
     first = refl;
-    places = omega arith;
     few = omega arith;
     rising = λ i j a x y. absurd (omega arith);
     below = λ i a. let first : i ≡ 0 = omega arith in rw first (omega (arith, n, ra.later));
@@ -255,7 +252,7 @@ module _ (bs : Bor Bytes) (w : List ℕ) (ss : List Str) (r : Bytes) (q : read_r
     held = begin_held;
     laid = begin_laid x;
     noted = begin_noted;
-    kept = record { long = length-replicate {A = Span} 1024 no_span; saved = refl; depth = refl };
+    kept = record { saved = refl };
   }
 
 -- a head that tells the pool

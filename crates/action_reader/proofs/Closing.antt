@@ -1,10 +1,10 @@
 -- The steps at the end of a list.
-use Prim.Native.Nat.{ℕ, zero, suc, ◌+◌, ◌≤◌, ◌<◌}
+use Prim.Native.Nat.{ℕ, zero, suc, ◌+◌, ◌-◌, ◌≤◌, ◌<◌}
 use mathlib.Core.Path.{◌≡◌, refl, sym, ap, ◌∙◌, subst}
 use mathlib.Core.List.{List, [], ◌∷◌, ◌++◌, map}
 use mathlib.Core.Bool.{Bool, true, false, ◌&&◌}
 use native.Mathlib.Omega.{arith}
-use lib.ListN.{length, take, drop, length-append, length-map, length-drop}
+use lib.ListN.{length, take, drop, length-append, length-map, length-drop, length-take}
 use lib.Seq.{slice_empty, take_all}
 use Rattle.std.proofs.Common.{Option, Some, None, eqb}
 use borrow.Author.Tests.{eqb-true}
@@ -20,7 +20,7 @@ use Rattle.action_reader.specs.declared.walk.Span.{Span}
 use Rattle.action_reader.specs.declared.walk.Walk.{Walk}
 use Rattle.action_reader.specs.Walk.{Ended, ended_at, Open, defined, ending, resume, lost, raw, bounds, settle, settled, lands}
 use Rattle.action_reader.specs.Layout.{layout}
-use Rattle.action_reader.specs.State.{close_after, is_end, is_over}
+use Rattle.action_reader.specs.State.{depth, close_after, is_end, is_over}
 use Rattle.action_reader.specs.Lists.{Ready, Given, EndedAs, Closed, ClosedAs, positions_of}
 use Rattle.action_reader.specs.View.{upper, Held, Laid, Noted, Kept, Stands}
 use Rattle.action_reader.specs.Walked.{OrRefused, Done, Stepped}
@@ -29,7 +29,7 @@ use Rattle.action_reader.proofs.Weights.{total_append}
 use Rattle.action_reader.proofs.Slice.{layout_end}
 use Rattle.action_reader.proofs.Holding.{held_close, nothing_read}
 use Rattle.action_reader.proofs.Standing.{given_list, ends_many, laid_close, joined_last, ends_last, settled_is}
-use Rattle.action_reader.proofs.Notes.{positions_are, own_ordered, first_filled, own_position, noted_close, span_kept, kept_close}
+use Rattle.action_reader.proofs.Notes.{table_length, positions_are, own_ordered, first_filled, own_position, noted_close, kept_depth, span_kept, kept_close}
 use Rattle.action_reader.proofs.Verdict as verdict
 use Rattle.action_reader.proofs.Stepping.{limits, numbers, upward_less}
 
@@ -41,9 +41,8 @@ ready h = record {
   room = (numbers h).room;
   whole = (numbers h).whole;
   cap = (numbers h).cap;
-  from = omega (arith, h.noted.places);
+  from = omega (arith, table_length h.noted);
   few = (numbers h).places_few;
-  in_table = omega (arith, h.noted.long, (numbers h).places_few);
   ordered = own_ordered h.noted;
   more = (numbers h).lists_few;
 }
@@ -52,18 +51,14 @@ ready h = record {
 pub record InBody (s : Walk) : Type 0 where
   pub base : 0 < s.span.base
   pub first : 0 < s.span.first
-  pub depth : 0 < s.depth
-  pub few : s.depth ≤ 1024
 
-pub in_body : {w : List ℕ} {s : Walk} → Stands s.bytes.now w s → (s.depth ≡ 0 → ⊥) → InBody s
+pub in_body : {w : List ℕ} {s : Walk} → Stands s.bytes.now w s → (depth s ≡ 0 → ⊥) → InBody s
 in_body {w} {s} h n = record {
   base = omega (arith, (numbers h).whole, (numbers h).filled);
-  first = go h.around h.noted h.kept.depth;
-  depth = omega arith;
-  few = omega (arith, (numbers h).depth_few);
+  first = go h.around h.noted (kept_depth h.kept);
 }
   where
-    go : (fs : List Open) → Noted s fs h.own → length fs ≡ s.depth → 0 < s.span.first
+    go : (fs : List Open) → Noted s fs h.own → length fs ≡ depth s → 0 < s.span.first
     go [] x e = absurd (n (sym e))
     go (g ∷ fs) x e = first_filled x
 
@@ -84,7 +79,7 @@ module _ {w : List ℕ} {s : Walk} (h : Stands s.bytes.now w s) (at_end : s.at �
   close_left g fs ls own x =
       sym (ap (resume (g ∷ fs) own ls s.at) (ap (λ (i : ℕ). drop i (take s.span.end b)) at_end ∙ slice_empty s.span.end b) ∙ step_end (ending (g ∷ fs)) own ls s.at [] nothing_read) ∙ x.left
 
-  closed : (fs : List Open) → length fs ≡ s.depth → (s.depth ≡ 0 → ⊥) → Held b s h.strings fs h.own h.lists → Laid w s fs h.own h.lists → Noted s fs h.own → Kept s fs →
+  closed : (fs : List Open) → length fs ≡ depth s → (depth s ≡ 0 → ⊥) → Held b s h.strings fs h.own h.lists → Laid w s fs h.own h.lists → Noted s fs h.own → Kept s fs →
       {A : Type 0} (r : Option A) (s' : Walk) (w' : List ℕ) →
       ((low xs up : List Entry) (ends : List ℕ) → Given w s low xs up ends → length ends ≡ s.lists → ClosedAs low xs up ends s s' r w') → length w' ≡ length w → Stepped s s' r w'
   closed [] e n x l m k r s' w' c long = absurd (n (sym e))
@@ -109,15 +104,15 @@ module _ {w : List ℕ} {s : Walk} (h : Stands s.bytes.now w s) (at_end : s.at �
               held = held_close x new at_end lands-all refl (ap (λ (v : Span). v.end) sp) refl refl refl;
               laid = laid_close l (numbers h).sum z' long (positions_are m) (own_position m) refl refl
                   (omega (arith, ap (λ (v : Span). v.base) sp, l.base, length-append (raw g.around) (upper fs))) refl refl refl;
-              noted = noted_close m (suc (length h.lists)) new refl (ap (λ (v : Span). v.first) sp) refl refl refl;
-              kept = kept_close k new refl refl;
+              noted = noted_close m (suc (length h.lists)) new refl (ap (λ (v : Span). v.first) sp) refl refl;
+              kept = record { saved = kept_close k };
             };
-            less = upward_less s new refl refl (omega arith);
+            less = upward_less s new refl refl (rw (length-take (depth s - 1) s.outer.items) (omega arith));
           })
 
-  pub close_step : (s.depth ≡ 0 → ⊥) → {A : Type 0} (r : Option A) (s' : Walk) (w' : List ℕ) →
+  pub close_step : (depth s ≡ 0 → ⊥) → {A : Type 0} (r : Option A) (s' : Walk) (w' : List ℕ) →
       ((low xs up : List Entry) (ends : List ℕ) → Given w s low xs up ends → length ends ≡ s.lists → ClosedAs low xs up ends s s' r w') → length w' ≡ length w → Stepped s s' r w'
-  close_step n r s' w' c long = closed h.around h.kept.depth n h.held h.laid h.noted h.kept r s' w' c long
+  close_step n r s' w' c long = closed h.around (kept_depth h.kept) n h.held h.laid h.noted h.kept r s' w' c long
 
 -- the top list ends
 
@@ -128,14 +123,14 @@ ended_with (zero ∷ (y ∷ r)) e = cc
 ended_with (suc y ∷ r) e = cc
 
 pub record AtEnd (s : Walk) : Type 0 where
-  pub top : s.depth ≡ 0
+  pub top : depth s ≡ 0
   pub last : drop s.at s.bytes.now ≡ 0 ∷ []
 
 pub at_end_of : {s : Walk} → is_over s ≡ true → AtEnd s
-at_end_of {s} e = go (eqb s.depth 0) refl e
+at_end_of {s} e = go (eqb (depth s) 0) refl e
   where
-    go : (t : Bool) → eqb s.depth 0 ≡ t → (t && is_end (drop s.at s.bytes.now)) ≡ true → AtEnd s
-    go true q f = record { top = eqb-true s.depth 0 q; last = ended_with (drop s.at s.bytes.now) f }
+    go : (t : Bool) → eqb (depth s) 0 ≡ t → (t && is_end (drop s.at s.bytes.now)) ≡ true → AtEnd s
+    go true q f = record { top = eqb-true (depth s) 0 q; last = ended_with (drop s.at s.bytes.now) f }
     go false q f = cc
 
 module _ {w : List ℕ} {s : Walk} (h : Stands s.bytes.now w s) (over : is_over s ≡ true) where
@@ -157,7 +152,7 @@ module _ {w : List ℕ} {s : Walk} (h : Stands s.bytes.now w s) (over : is_over 
       q ∙ rw (f.entries, es) (sym (sym (layout_end (map settled ls ++ (settled new ∷ [])) (length w') fits (omega (arith, l.long)))
       ∙ rw (joined_last (map settled ls) (settled new), ends_last 0 (map settled ls) (settled new), n, zero_first, is)))
 
-  finished : (fs : List Open) → length fs ≡ s.depth → Held all_bytes s h.strings fs h.own h.lists → Laid w s fs h.own h.lists → Noted s fs h.own → (r : Option ℕ) (w' : List ℕ) →
+  finished : (fs : List Open) → length fs ≡ depth s → Held all_bytes s h.strings fs h.own h.lists → Laid w s fs h.own h.lists → Noted s fs h.own → (r : Option ℕ) (w' : List ℕ) →
       ((low xs up : List Entry) (ends : List ℕ) → Given w s low xs up ends → length ends ≡ s.lists → EndedAs s low xs up ends r w') → length w' ≡ length w → OrRefused all_bytes r (λ _. Done all_bytes w')
   finished (g ∷ fs) e x l m r w' c long = let z : ⊥ = omega (arith, (at_end_of {s = s} over).top) in absurd z
   finished [] e x l m r w' c long = go r (c _ _ _ _ (given_list l) (ends_many l))
@@ -182,4 +177,4 @@ module _ {w : List ℕ} {s : Walk} (h : Stands s.bytes.now w s) (over : is_over 
 
   pub finish_step : (r : Option ℕ) (w' : List ℕ) →
       ((low xs up : List Entry) (ends : List ℕ) → Given w s low xs up ends → length ends ≡ s.lists → EndedAs s low xs up ends r w') → length w' ≡ length w → OrRefused all_bytes r (λ _. Done all_bytes w')
-  finish_step r w' c long = finished h.around h.kept.depth h.held h.laid h.noted r w' c long
+  finish_step r w' c long = finished h.around (kept_depth h.kept) h.held h.laid h.noted r w' c long

@@ -1,93 +1,79 @@
 -- The table of positions and the kept ends, after each step.
-use Prim.Native.Nat.{ℕ, suc, ◌+◌, ◌-◌, ◌≤◌, ◌<◌}
+use Prim.Native.Nat.{ℕ, suc, ◌+◌, ◌-◌, ◌<◌}
 use mathlib.Core.Path.{◌≡◌, refl, sym, ap, ◌∙◌}
 use mathlib.Core.List.{List, [], ◌∷◌, ◌++◌, append_assoc, append-nil}
 use native.Mathlib.Omega.{arith}
 use native.Mathlib.Decide.{dec_lt}
-use native.Mathlib.Numerals.{add-one}
-use lib.ListN.{length, get_or, set, take, drop, length-append, length-map, length-set}
-use lib.Seq.{take-suc-set, get_or-set_same, get_or-set_other, get_or-take, take-take, take_at, drop-append_seam, get_or-append_seam}
-use Rattle.std.proofs.lemmas.List.{drop-take}
+use lib.ListN.{length, get_or, take, get_or-append, length-append, length-map, length-take}
+use lib.Seq.{get_or-take, take_at, drop-append_seam, get_or-append_seam}
 use Rattle.list_slice.specs.Read.{Placed}
 use Rattle.list_slice.proofs.Read.{map_append}
 use Rattle.action_reader.specs.declared.walk.Span.{Span}
 use Rattle.action_reader.specs.declared.walk.Walk.{Walk}
 use Rattle.action_reader.specs.Walk.{ended_at, Open, defined, bounds}
-use Rattle.action_reader.specs.Places.{Ordered}
+use Rattle.action_reader.specs.Places.{Ordered, Rises}
 use Rattle.action_reader.specs.Lists.{positions_of}
-use Rattle.action_reader.specs.State.{no_span}
+use Rattle.action_reader.specs.State.{depth, no_span}
 use Rattle.action_reader.specs.View.{positions, upper, marks, saves, Noted, Kept}
 
--- The library's `drop-take` with the end of what is taken, in place of its length.
-drop_of_take : (t : List ℕ) (a n : ℕ) → a ≤ n → take (n - a) (drop a t) ≡ drop a (take n t)
-drop_of_take t a n h = sym (drop-take a (n - a) t) ∙ ap (λ (i : ℕ). drop a (take i t)) (omega arith)
-
--- The library's `take_at` is of a list that is split at its seam; this is of one whose longer front is.
-take_of_front : {A : Type 0} (n : ℕ) (xs ys : List A) (t : List A) (m : ℕ) → n ≤ m → take m t ≡ xs ++ ys → length xs ≡ n → take n t ≡ xs
-take_of_front n xs ys t m h e l = sym (take-take n m t h) ∙ rw e (take_at xs ys n l)
-
 module _ {s : Walk} {fs : List Open} {own : List Placed} (h : Noted s fs own) where
+  pub table_length : length own + s.span.first ≡ length s.table.items
+  table_length = rw (h.table, length-append (marks fs) (positions own), length-map own (λ (x : Placed). x.position)) (omega (arith, h.first))
+
   -- the positions of the present list
   pub positions_are : positions_of s ≡ bounds (ended_at own s.at)
-  positions_are =
-      let e : drop s.span.first (take s.places s.table) ≡ positions own = rw (h.table, ← h.first) (drop-append_seam (marks fs) (positions own)) in
-      ap (λ (z : List ℕ). z ++ (s.at ∷ [])) (drop_of_take s.table s.span.first s.places (omega (arith, h.places)) ∙ e)
+  positions_are = ap (λ (z : List ℕ). z ++ (s.at ∷ [])) (rw (h.table, ← h.first) (drop-append_seam (marks fs) (positions own)))
 
-  pub own_ordered : Ordered s.table s.span.first s.places
+  pub own_ordered : Ordered s.table.items s.span.first (length s.table.items)
   own_ordered = λ i j a b c. h.rising i j (omega arith) b c
 
-  module _ (room : s.places < 1024) where
-    abbrev next : List ℕ
-    next = set s.table s.places s.at
+  abbrev next : List ℕ
+  next = s.table.items ++ (s.at ∷ [])
 
-    table_more : take (s.places + 1) next ≡ (marks fs ++ positions own) ++ (s.at ∷ [])
-    table_more = rw (add-one s.places, take-suc-set s.table s.places s.at (omega (arith, h.long)), h.table)
+  next_length : length next ≡ length s.table.items + 1
+  next_length = length-append s.table.items (s.at ∷ [])
 
-    at_last : get_or next s.places 0 ≡ s.at
-    at_last = get_or-set_same s.table s.places s.at 0 (omega (arith, h.long))
+  at_last : get_or next (length s.table.items) 0 ≡ s.at
+  at_last = get_or-append_seam s.table.items s.at [] 0
 
-    at_before : (i : ℕ) → i < s.places → get_or next i 0 ≡ get_or s.table i 0
-    at_before i k = get_or-set_other s.table s.places i s.at 0 (λ e. omega arith)
+  at_before : (i : ℕ) → i < length s.table.items → get_or next i 0 ≡ get_or s.table.items i 0
+  at_before i k = get_or-append s.table.items (s.at ∷ []) 0 i k
 
-    rising_more : Ordered next 0 (s.places + 1)
-    rising_more i j a b c = go (dec_lt j s.places)
-      where
-        go : Dec (j < s.places) → get_or next i 0 < get_or next j 0
-        go (yes k) = rw (at_before i (omega arith), at_before j k) (h.rising i j a b k)
-        go (no k) = let e : j ≡ s.places = omega arith in rw (at_before i (omega arith), e, at_last) (h.below i (omega arith))
+  rising_more : Rises next
+  rising_more i j a b c = go (dec_lt j (length s.table.items))
+    where
+      go : Dec (j < length s.table.items) → get_or next i 0 < get_or next j 0
+      go (yes k) = rw (at_before i (omega arith), at_before j k) (h.rising i j a b k)
+      go (no k) = let e : j ≡ length s.table.items = omega (arith, next_length) in rw (at_before i (omega (arith, e)), e, at_last) (h.below i (omega arith))
 
-    below_more : (p : ℕ) → s.at < p → (i : ℕ) → i < s.places + 1 → get_or next i 0 < p
-    below_more p q i k = go (dec_lt i s.places)
-      where
-        go : Dec (i < s.places) → get_or next i 0 < p
-        go (yes z) = rw (at_before i z) (omega (arith, h.below i z))
-        go (no z) = let e : i ≡ s.places = omega arith in rw (e, at_last) q
+  below_more : (p : ℕ) → s.at < p → (i : ℕ) → i < length next → get_or next i 0 < p
+  below_more p q i k = go (dec_lt i (length s.table.items))
+    where
+      go : Dec (i < length s.table.items) → get_or next i 0 < p
+      go (yes z) = rw (at_before i z) (omega (arith, h.below i z))
+      go (no z) = let e : i ≡ length s.table.items = omega (arith, next_length) in rw (e, at_last) q
 
-    -- an action
-    pub noted_single : (a : Placed) → a.position ≡ s.at → (s' : Walk) → s'.table ≡ next → s.at < s'.at → s'.span.first ≡ s.span.first → s'.places ≡ s.places + 1 →
-        s'.actions ≡ s.actions + 1 → Noted s' fs (own ++ (a ∷ []))
-    noted_single a e s' q later first_is places-are actions-are = record {
-      long = ap length q ∙ length-set s.table s.places s.at ∙ h.long;
-      table = rw (q, places-are, table_more, append_assoc (marks fs) (positions own) (s.at ∷ []), map_append (λ (x : Placed). x.position) own (a ∷ []), e);
-      first = h.first ∙ sym first_is;
-      places = rw (length-append own (a ∷ [])) (omega (arith, h.places));
-      few = omega (arith, h.few);
-      rising = rw (q, places-are) rising_more;
-      below = rw (q, places-are) (below_more s'.at later);
-    }
+  -- an action
+  pub noted_single : (a : Placed) → a.position ≡ s.at → (s' : Walk) → s'.table.items ≡ next → s.at < s'.at → s'.span.first ≡ s.span.first → s'.actions ≡ s.actions + 1 →
+      Noted s' fs (own ++ (a ∷ []))
+  noted_single a e s' q later first_is actions-are = record {
+    table = rw (q, h.table, append_assoc (marks fs) (positions own) (s.at ∷ []), map_append (λ (x : Placed). x.position) own (a ∷ []), e);
+    first = h.first ∙ sym first_is;
+    few = rw q (omega (arith, h.few, next_length));
+    rising = rw q rising_more;
+    below = rw q (below_more s'.at later);
+  }
 
-    -- a function whose body begins
-    pub noted_open : (g : Open) → g.around ≡ own → g.position ≡ s.at → (s' : Walk) → s'.table ≡ next → s.at < s'.at → s'.span.first ≡ s.places + 1 →
-        s'.places ≡ s.places + 1 → s'.actions ≡ s.actions + 1 → Noted s' (g ∷ fs) []
-    noted_open g e p s' q later first_is places-are actions-are = record {
-      long = ap length q ∙ length-set s.table s.places s.at ∙ h.long;
-      table = rw (q, places-are, table_more, e, p) (append_assoc (marks fs) (positions own) (s.at ∷ []) ∙ sym (append-nil (marks fs ++ (positions own ++ (s.at ∷ [])))));
-      first = rw (e, length-append (marks fs) (positions own ++ (g.position ∷ [])), length-append (positions own) (g.position ∷ []), length-map own (λ (x : Placed). x.position)) (omega (arith, h.first, h.places));
-      places = omega arith;
-      few = omega (arith, h.few);
-      rising = rw (q, places-are) rising_more;
-      below = rw (q, places-are) (below_more s'.at later);
-    }
+  -- a function whose body begins
+  pub noted_open : (g : Open) → g.around ≡ own → g.position ≡ s.at → (s' : Walk) → s'.table.items ≡ next → s.at < s'.at → s'.span.first ≡ length s.table.items + 1 →
+      s'.actions ≡ s.actions + 1 → Noted s' (g ∷ fs) []
+  noted_open g e p s' q later first_is actions-are = record {
+    table = rw (q, h.table, e, p) (append_assoc (marks fs) (positions own) (s.at ∷ []) ∙ sym (append-nil (marks fs ++ (positions own ++ (s.at ∷ [])))));
+    first = rw (e, length-append (marks fs) (positions own ++ (g.position ∷ [])), length-append (positions own) (g.position ∷ []), length-map own (λ (x : Placed). x.position)) (omega (arith, h.first, table_length));
+    few = rw q (omega (arith, h.few, next_length));
+    rising = rw q rising_more;
+    below = rw q (below_more s'.at later);
+  }
 
 module _ {s : Walk} {g : Open} {fs : List Open} {own : List Placed} (h : Noted s (g ∷ fs) own) where
   abbrev before : List ℕ
@@ -106,24 +92,23 @@ module _ {s : Walk} {g : Open} {fs : List Open} {own : List Placed} (h : Noted s
   first_filled = omega (arith, before_length)
 
   -- the function's own position
-  pub own_position : get_or s.table (s.span.first - 1) 0 ≡ g.position
+  pub own_position : get_or s.table.items (s.span.first - 1) 0 ≡ g.position
   own_position =
       let e : s.span.first - 1 ≡ length before = omega (arith, before_length) in
-      let f : length before < s.places = omega (arith, before_length, h.places) in
-      rw (e, ← get_or-take s.places s.table (length before) 0 f, h.table, regroup) (get_or-append_seam before g.position (positions own) 0)
+      rw (e, h.table, regroup) (get_or-append_seam before g.position (positions own) 0)
 
-  pub noted_close : (n : ℕ) (s' : Walk) → s'.at ≡ s.at → s'.span.first ≡ length (marks fs) → s'.places ≡ s.span.first → s'.actions ≡ s.actions → s'.table ≡ s.table →
+  kept_length : length (take s.span.first s.table.items) ≡ s.span.first
+  kept_length = rw (length-take s.span.first s.table.items) (omega (arith, table_length h))
+
+  pub noted_close : (n : ℕ) (s' : Walk) → s'.at ≡ s.at → s'.span.first ≡ length (marks fs) → s'.actions ≡ s.actions → s'.table.items ≡ take s.span.first s.table.items →
       Noted s' fs (g.around ++ (defined g n ∷ []))
-  noted_close n s' at-is first_is places-are actions-are same = record {
-    long = rw same h.long;
-    table = rw (same, places-are) (take_of_front s.span.first (marks fs ++ (positions g.around ++ (g.position ∷ []))) (positions own) s.table s.places (omega (arith, h.places)) h.table h.first
+  noted_close n s' at-is first_is actions-are same = record {
+    table = rw (same, h.table) (take_at (marks fs ++ (positions g.around ++ (g.position ∷ []))) (positions own) s.span.first h.first
         ∙ ap (λ (z : List ℕ). marks fs ++ z) (sym (map_append (λ (x : Placed). x.position) g.around (defined g n ∷ []))));
     first = sym first_is;
-    places = rw (length-append g.around (defined g n ∷ []), places-are, first_is)
-        (omega (arith, before_length, length-append (marks fs) (positions g.around), length-map g.around (λ (x : Placed). x.position)));
-    few = omega (arith, h.few, h.places);
-    rising = λ i j a b c. rw same (h.rising i j a b (omega (arith, h.places)));
-    below = λ i a. rw (same, at-is) (h.below i (omega (arith, h.places)));
+    few = rw same (omega (arith, kept_length, table_length h, h.few));
+    rising = rw same (λ i j a b c. rw (get_or-take s.span.first s.table.items i 0 (omega (arith, kept_length)), get_or-take s.span.first s.table.items j 0 (omega (arith, kept_length))) (h.rising i j a b (omega (arith, kept_length, table_length h))));
+    below = rw (same, at-is) (λ i a. rw (get_or-take s.span.first s.table.items i 0 (omega (arith, kept_length))) (h.below i (omega (arith, kept_length, table_length h))));
   }
 
 -- the kept spans
@@ -136,29 +121,19 @@ saves_length [] = refl
 saves_length (f ∷ fs) = rw (length-append (saves fs) (span_of f fs ∷ []), saves_length fs) (omega arith)
 
 module _ {s : Walk} {fs : List Open} (h : Kept s fs) where
-  pub kept_same : (s' : Walk) → s'.depth ≡ s.depth → s'.outer ≡ s.outer → Kept s' fs
-  kept_same s' e o = record { long = rw o h.long; saved = rw (e, o) h.saved; depth = rw e h.depth }
+  pub kept_depth : length fs ≡ depth s
+  kept_depth = sym (saves_length fs) ∙ ap length (sym h.saved)
 
-  pub kept_open : (g : Open) → g.stop ≡ s.span.end → 4096 - length (upper fs) ≡ s.span.base → length (marks fs) ≡ s.span.first → s.depth < 1024 →
-      (s' : Walk) → s'.depth ≡ s.depth + 1 → s'.outer ≡ set s.outer s.depth s.span → Kept s' (g ∷ fs)
-  kept_open g stop_is base_is first_is few s' depth_is q = record {
-    long = rw (q, length-set) h.long;
-    saved = rw (q, depth_is, add-one s.depth, take-suc-set s.outer s.depth s.span (omega (arith, h.long)), h.saved, stop_is, base_is, first_is);
-    depth = omega (arith, h.depth);
-  }
+  pub kept_open : (g : Open) → g.stop ≡ s.span.end → 4096 - length (upper fs) ≡ s.span.base → length (marks fs) ≡ s.span.first →
+      s.outer.items ++ (s.span ∷ []) ≡ saves (g ∷ fs)
+  kept_open g stop_is base_is first_is = rw (h.saved, stop_is, base_is, first_is)
 
 module _ {s : Walk} {g : Open} {fs : List Open} (h : Kept s (g ∷ fs)) where
-  around_is : s.depth - 1 ≡ length (saves fs)
-  around_is = rw (saves_length fs) (omega (arith, h.depth))
+  around_is : depth s - 1 ≡ length (saves fs)
+  around_is = omega (arith, ap length h.saved, length-append (saves fs) (span_of g fs ∷ []))
 
-  pub span_kept : get_or s.outer (s.depth - 1) no_span ≡ span_of g fs
-  span_kept =
-      let f : s.depth - 1 < s.depth = omega (arith, h.depth) in
-      rw (← get_or-take s.depth s.outer (s.depth - 1) no_span f, h.saved, around_is) (get_or-append_seam (saves fs) (span_of g fs) [] no_span)
+  pub span_kept : get_or s.outer.items (depth s - 1) no_span ≡ span_of g fs
+  span_kept = rw (around_is, h.saved) (get_or-append_seam (saves fs) (span_of g fs) [] no_span)
 
-  pub kept_close : (s' : Walk) → s'.depth ≡ s.depth - 1 → s'.outer ≡ s.outer → Kept s' fs
-  kept_close s' e o = record {
-    long = rw o h.long;
-    saved = rw (e, o) (take_of_front (s.depth - 1) (saves fs) (span_of g fs ∷ []) s.outer s.depth (omega arith) h.saved (sym around_is));
-    depth = omega (arith, h.depth);
-  }
+  pub kept_close : take (depth s - 1) s.outer.items ≡ saves fs
+  kept_close = rw (around_is, h.saved) (take_at (saves fs) (span_of g fs ∷ []) (length (saves fs)) refl)

@@ -10,7 +10,7 @@ use Rattle.std.proofs.lemmas.Option.{same_Some}
 use Rattle.record_reader.specs.Steps.{some_of}
 use native.Mathlib.Omega.{arith}
 use lib.ListN.{length, get_or, take, drop, length-append, length-map, length-take, length-drop, take-append-drop}
-use lib.Seq.{drop-cons, take-suc}
+use lib.Seq.{drop-cons, take-suc, take_all}
 use Rattle.action_format.specs.Lists.{all}
 use Rattle.list_slice.specs.Entry.{Entry, entry}
 use Rattle.list_slice.proofs.Read.{map_append}
@@ -21,6 +21,10 @@ use Rattle.action_reader.specs.Walk.{settle, lands, is_branch, seek, found, or_z
 use Rattle.action_reader.specs.Layout.{layout}
 use Rattle.action_reader.specs.Lists.{Given, Lost, positions_of}
 use Rattle.action_reader.proofs.Slice.{moves, reads_code, reads_first, reads_second}
+
+-- The library has no lemma of this shape: the part of a slice from a on, as `[a..]` gives it.
+pub rest_of : {xs ys : List ℕ} → ys ≡ xs → (a : ℕ) → take (length ys - a) (drop a ys) ≡ drop a xs
+rest_of {xs} {ys} e a = rw e (take_all (length xs - a) (drop a xs) (rw (length-drop a xs) (omega arith)))
 
 -- k entries have moved
 pub record Half (ps : List ℕ) (k : ℕ) (low xs up : List Entry) (ends : List ℕ) (w : List ℕ) : Type 0 where

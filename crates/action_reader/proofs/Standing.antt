@@ -113,7 +113,7 @@ settled_is l = refl
 pub laid_close : {w : List ℕ} {s : Walk} {g : Open} {fs : List Open} {own : List Placed} {ls : List Ended} (h : Laid w s (g ∷ fs) own ls) → {s' : Walk} {w' : List ℕ} →
     s.actions + s.values < 4096 →
     Closed (joined (map settled ls)) (raw own) (upper (g ∷ fs)) (ends_from 0 (map settled ls)) s s' w' → length w' ≡ length w →
-    positions_of s ≡ bounds (ended_at own s.at) → get_or s.table (s.span.first - 1) 0 ≡ g.position →
+    positions_of s ≡ bounds (ended_at own s.at) → get_or s.table.items (s.span.first - 1) 0 ≡ g.position →
     s'.low ≡ length (joined (map settled ls)) + length (raw own) → s'.top ≡ s.span.base - 1 → s'.span.base + length (upper fs) ≡ 4096 → s'.lists ≡ s.lists + 1 → s'.actions ≡ s.actions → s'.values ≡ s.values →
     Laid w' s' fs (g.around ++ (defined g (suc (length ls)) ∷ [])) (ls ++ (ended_at own s.at ∷ []))
 laid_close {w} {s} {g} {fs} {own} {ls} h {s'} {w'} few x l ps mine low_is top_is base_is lists_are actions-are values-are = record {
@@ -148,7 +148,7 @@ laid_close {w} {s} {g} {fs} {own} {ls} h {s'} {w'} few x l ps mine low_is top_is
     up_length : length (upper fs) + (4096 - length (upper fs)) ≡ 4096
     up_length = omega (arith, around_there)
 
-    all_same : layout (joined (map settled ls) ++ map (settle (positions_of s)) (raw own)) (entry 256 (s.lists + 1) (get_or s.table (s.span.first - 1) 0) ∷ upper (g ∷ fs))
+    all_same : layout (joined (map settled ls) ++ map (settle (positions_of s)) (raw own)) (entry 256 (s.lists + 1) (get_or s.table.items (s.span.first - 1) 0) ∷ upper (g ∷ fs))
         (ends_from 0 (map settled ls) ++ ((length (joined (map settled ls)) + length (raw own)) ∷ [])) (length w') ≡
         layout (joined (map settled (ls ++ (new ∷ [])))) (raw (g.around ++ (defined g (suc (length ls)) ∷ [])) ++ upper fs) (ends_from 0 (map settled (ls ++ (new ∷ [])))) (length w')
     all_same = rw (finished, joined_last (map settled ls) (settled new), ends_last 0 (map settled ls) (settled new), settled_length, grown, mine, number, zero_first, ← new_is)

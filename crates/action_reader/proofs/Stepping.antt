@@ -28,7 +28,7 @@ use Rattle.definition.specs.Outcome.{byte_limits}
 use Rattle.record_reader.proofs.Laws.{RecordAt, ValuesAt, push_reads}
 use Rattle.action_reader.specs.declared.walk.Walk.{Walk}
 use Rattle.action_reader.specs.Walk.{Ended, Open, ending, one, valued, bad, holds, raw, settled}
-use Rattle.action_reader.specs.State.{is_end, single_after, open_after, push_after}
+use Rattle.action_reader.specs.State.{depth, is_end, single_after, open_after, push_after}
 use Rattle.action_reader.specs.Pushes.{Values, value_entries, Pushed}
 use Rattle.action_reader.specs.View.{upper, Framed, Stands}
 use Rattle.action_reader.specs.Walked.{ahead, Further, Inside}
@@ -36,7 +36,7 @@ use Rattle.action_reader.proofs.Steps.{step_single, step_header, step_short, ste
 use Rattle.action_reader.proofs.Raw.{own_entries}
 use Rattle.action_reader.proofs.Holding.{weight_last, weight_open, held_single, held_open}
 use Rattle.action_reader.proofs.Standing.{laid_single, laid_push, laid_open}
-use Rattle.action_reader.proofs.Notes.{noted_single, noted_open, kept_same, kept_open}
+use Rattle.action_reader.proofs.Notes.{noted_single, noted_open, kept_depth, kept_open}
 use Rattle.action_reader.proofs.Verdict as verdict
 use Rattle.action_reader.proofs.Heads.{made}
 
@@ -61,10 +61,10 @@ entries_length p vs =
 
 -- progress
 
-pub forward_less : (s s' : Walk) → s'.bytes ≡ s.bytes → s.at < s'.at → s'.at ≤ length s.bytes.now → s'.depth ≤ s.depth + 1 → ahead s' < ahead s
+pub forward_less : (s s' : Walk) → s'.bytes ≡ s.bytes → s.at < s'.at → s'.at ≤ length s.bytes.now → depth s' ≤ depth s + 1 → ahead s' < ahead s
 forward_less s s' e l m d = rw e (omega arith)
 
-pub upward_less : (s s' : Walk) → s'.bytes ≡ s.bytes → s'.at ≡ s.at → s'.depth < s.depth → ahead s' < ahead s
+pub upward_less : (s s' : Walk) → s'.bytes ≡ s.bytes → s'.at ≡ s.at → depth s' < depth s → ahead s' < ahead s
 upward_less s s' e l d = rw (e, l) (omega arith)
 
 module _ {w : List ℕ} {s : Walk} (h : Stands s.bytes.now w s) where
@@ -106,10 +106,10 @@ module _ {w : List ℕ} {s : Walk} (h : Stands s.bytes.now w s) where
     pub room : s.low < s.top
     pub whole : s.top ≤ s.span.base
     pub cap : s.span.base ≤ 4096
-    pub places_few : s.places ≤ 1024
-    pub places_less : s.actions < 1024 → s.places < 1024
+    pub places_few : length s.table.items ≤ 1024
+    pub places_less : s.actions < 1024 → length s.table.items < 1024
     pub near : s.at < 67200000
-    pub depth_few : s.depth < 1024
+    pub depth_few : depth s < 1024
     pub lists_few : s.lists < 1024
     pub sum : s.actions + s.values < 4096
 
@@ -124,14 +124,14 @@ module _ {w : List ℕ} {s : Walk} (h : Stands s.bytes.now w s) where
     places_few = omega (arith, h.noted.few, h.held.few_actions);
     places_less = λ l. omega (arith, h.noted.few);
     near = omega (arith, h.held.far, h.held.few_actions);
-    depth_few = omega (arith, h.kept.depth, h.laid.fewer, h.held.few_actions);
+    depth_few = omega (arith, kept_depth h.kept, h.laid.fewer, h.held.few_actions);
     lists_few = omega (arith, h.laid.fewer, h.held.few_actions);
     sum = omega (arith, h.held.few_actions, h.held.few_values);
   }
 
   -- no record, and no end
 
-  stuck : (gs : List Open) → Framed b gs s.span.end → length gs ≡ s.depth → (own : List Placed) (ls : List Ended) (p : ℕ) (r : Bytes) → Inside s → r ≡ here → ending gs own ls p r ≡ none
+  stuck : (gs : List Open) → Framed b gs s.span.end → length gs ≡ depth s → (own : List Placed) (ls : List Ended) (p : ℕ) (r : Bytes) → Inside s → r ≡ here → ending gs own ls p r ≡ none
   stuck [] f l own ls p [] i e = refl
   stuck [] f l own ls p (zero ∷ []) i e =
       let y : drop s.at b ≡ 0 ∷ [] = ap (drop s.at) (sym (rw f (take_all (length b) b (omega arith)))) ∙ sym e in
@@ -147,7 +147,7 @@ module _ {w : List ℕ} {s : Walk} (h : Stands s.bytes.now w s) where
   pub refuse_nothing : read_record here ≡ none → Inside s → decode limits b ≡ none
   refuse_nothing e i =
       verdict.stopped limits b ss h.held.pool fs h.own h.lists s.at here h.held.left
-      (step_end (ending fs) h.own h.lists s.at here e ∙ stuck fs h.held.framed h.kept.depth h.own h.lists s.at here i refl)
+      (step_end (ending fs) h.own h.lists s.at here e ∙ stuck fs h.held.framed (kept_depth h.kept) h.own h.lists s.at here i refl)
 
   -- a record that is one too many, or breaks a rule
 
@@ -213,8 +213,8 @@ module _ {w : List ℕ} {s : Walk} (h : Stands s.bytes.now w s) where
         lists = h.lists;
         held = held_single h.held a r (single_after s next) e n rest_is next_inside q.short good few refl refl (omega (arith, v)) h.held.few_values refl;
         laid = laid_single h.laid numbers.sum (at (single a) s.at) c f 0 entries_are x (single_after s next) refl refl refl refl refl refl;
-        noted = noted_single h.noted (numbers.places_less few) (at (single a) s.at) refl (single_after s next) refl later refl refl refl;
-        kept = kept_same h.kept (single_after s next) refl refl;
+        noted = noted_single h.noted (at (single a) s.at) refl (single_after s next) refl later refl refl;
+        kept = record { saved = h.kept.saved };
       };
       less = forward_less s (single_after s next) refl later (omega (arith, next_inside, end_inside)) (omega arith);
     })
@@ -251,8 +251,8 @@ module _ {w : List ℕ} {s : Walk} (h : Stands s.bytes.now w s) where
         laid = laid_push h.laid (at (push vs) s.at) (value_entries (s.at + 3) vs) refl long
             ((pushed vs).words values_there (joined (map settled h.lists)) (raw h.own ++ upper fs) (ends_from 0 (map settled h.lists)) h.laid.words up_length (omega (arith, room_left, h.laid.low)))
             (push_after s m next) m (entries_length (s.at + 3) vs ∙ c) (omega (arith, room_left)) refl refl refl refl refl refl;
-        noted = noted_single h.noted (numbers.places_less few) (at (push vs) s.at) refl (push_after s m next) refl push_later refl refl refl;
-        kept = kept_same h.kept (push_after s m next) refl refl;
+        noted = noted_single h.noted (at (push vs) s.at) refl (push_after s m next) refl push_later refl refl;
+        kept = record { saved = h.kept.saved };
       };
       less = forward_less s (push_after s m next) refl push_later (omega (arith, push_inside, end_inside)) (omega arith);
     })
@@ -285,10 +285,10 @@ module _ {w : List ℕ} {s : Walk} (h : Stands s.bytes.now w s) where
         lists = h.lists;
         held = held_open h.held x size r (open_after s size next) e n header_rest (omega (arith, header_inside)) end_inside q.short good few refl refl refl refl;
         laid = laid_open h.laid g refl (open_after s size next) refl refl refl refl refl refl;
-        noted = noted_open h.noted (numbers.places_less few) g refl refl (open_after s size next) refl header_later refl refl refl;
-        kept = kept_open h.kept g refl (omega (arith, h.laid.base)) h.noted.first numbers.depth_few (open_after s size next) refl refl;
+        noted = noted_open h.noted g refl refl (open_after s size next) refl header_later refl refl;
+        kept = record { saved = kept_open h.kept g refl (omega (arith, h.laid.base)) h.noted.first };
       };
-      less = forward_less s (open_after s size next) refl header_later (omega (arith, header_inside, end_inside)) (omega arith);
+      less = forward_less s (open_after s size next) refl header_later (omega (arith, header_inside, end_inside)) (omega (arith, length-append s.outer.items (s.span ∷ [])));
     })
       where
         g : Open

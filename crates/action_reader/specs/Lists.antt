@@ -1,11 +1,11 @@
 -- A list that ends: where it stands, and how it is left.
-use Rattle.std.specs.Prelude.{ℕ, ◌+◌, ◌-◌, ◌≤◌, ◌<◌, ◌≡◌, List, [], ◌∷◌, ◌++◌, map, true, false, Option, MatchOption, length, get_or}
+use Rattle.std.specs.Prelude.{ℕ, ◌+◌, ◌-◌, ◌≤◌, ◌<◌, ◌≡◌, List, [], ◌∷◌, ◌++◌, map, true, false, Option, MatchOption, length, get_or, drop}
 use Rattle.action_format.specs.Lists.{all}
 use Rattle.list_slice.specs.Entry.{Entry, entry}
 use Rattle.action_reader.specs.declared.walk.Walk.{Walk}
 use Rattle.action_reader.specs.Walk.{settle, lands}
 use Rattle.action_reader.specs.Layout.{layout}
-use Rattle.action_reader.specs.Places.{Ordered, part}
+use Rattle.action_reader.specs.Places.{Ordered}
 use Rattle.action_reader.specs.State.{close_after}
 
 -- a list that can end
@@ -15,10 +15,9 @@ pub record Ready (w : List ℕ) (s : Walk) : Type 0 where
   pub room : s.low < s.top
   pub whole : s.top ≤ s.span.base
   pub cap : s.span.base ≤ 4096
-  pub from : s.span.first ≤ s.places
-  pub few : s.places ≤ 1024
-  pub in_table : s.places ≤ length s.table
-  pub ordered : Ordered s.table s.span.first s.places
+  pub from : s.span.first ≤ length s.table.items
+  pub few : length s.table.items ≤ 1024
+  pub ordered : Ordered s.table.items s.span.first (length s.table.items)
   pub more : s.lists < 1024
 
 -- the entries of the present list are xs, above finished ones and below those of other open lists
@@ -29,7 +28,7 @@ pub record Given (w : List ℕ) (s : Walk) (low xs up : List Entry) (ends : List
   pub own_is : length xs + s.top ≡ s.span.base
 
 abbrev pub positions_of : Walk → List ℕ
-positions_of s = part s.table s.span.first s.places s.at
+positions_of s = drop s.span.first s.table.items ++ (s.at ∷ [])
 
 -- a branch leads to no place
 abbrev pub Lost : Walk → List Entry → Type 0
@@ -52,7 +51,7 @@ EndedAs s low xs up ends r w = MatchOption r (Lost s xs) (λ n. Moved s low xs u
 pub record Closed (low xs up : List Entry) (ends : List ℕ) (s r : Walk) (w : List ℕ) : Type 0 where
   pub landed : all (lands (positions_of s)) xs ≡ true
   pub state : r ≡ close_after s (length low + length xs)
-  pub words : w ≡ layout (low ++ map (settle (positions_of s)) xs) (entry 256 (s.lists + 1) (get_or s.table (s.span.first - 1) 0) ∷ up) (ends ++ ((length low + length xs) ∷ [])) (length w)
+  pub words : w ≡ layout (low ++ map (settle (positions_of s)) xs) (entry 256 (s.lists + 1) (get_or s.table.items (s.span.first - 1) 0) ∷ up) (ends ++ ((length low + length xs) ∷ [])) (length w)
 
 abbrev pub ClosedAs : {A : Type 0} → (low xs up : List Entry) → (ends : List ℕ) → (s r : Walk) → Option A → List ℕ → Type 0
 ClosedAs low xs up ends s r o w = MatchOption o (Lost s xs) (λ _. Closed low xs up ends s r w)

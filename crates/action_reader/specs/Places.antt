@@ -1,5 +1,5 @@
 -- Positions in the table, and what is found among them.
-use Rattle.std.specs.Prelude.{ℕ, ◌-◌, ◌<◌, ◌≤◌, ◌≡◌, List, [], ◌∷◌, ◌++◌, Option, Some, cond, length, get_or, take, drop}
+use Rattle.std.specs.Prelude.{ℕ, ◌<◌, ◌≤◌, ◌≡◌, List, [], ◌∷◌, ◌++◌, Option, Some, cond, length, get_or}
 use Rattle.record_reader.specs.Steps.{some_of}
 use Rattle.action_reader.specs.Walk.{is_branch, seek}
 
@@ -9,10 +9,6 @@ Ordered t from to = (i j : ℕ) → from ≤ i → i < j → j < to → get_or t
 
 abbrev pub Rises : List ℕ → Type 0
 Rises ps = Ordered ps 0 (length ps)
-
--- the positions from index to index, and the byte after the list
-abbrev pub part : List ℕ → (from to stop : ℕ) → List ℕ
-part t from to stop = take (to - from) (drop from t) ++ (stop ∷ [])
 
 abbrev pub IsSeek : List ℕ → (stop x : ℕ) → Option ℕ → Type 0
 IsSeek ps stop x r = r ≡ some_of (seek x (ps ++ (stop ∷ [])))

@@ -16,7 +16,7 @@ use Rattle.action_reader.specs.declared.walk.Span.{Span}
 use Rattle.action_reader.specs.declared.walk.Walk.{Walk}
 use Rattle.action_reader.specs.Walk.{Ended, Open, resume, weight, one, valued, bad, lost, raw, settled}
 use Rattle.action_reader.specs.Layout.{layout}
-use Rattle.action_reader.specs.Places.{Ordered}
+use Rattle.action_reader.specs.Places.{Rises}
 
 abbrev pub positions : List Placed → List ℕ
 positions = map (λ (a : Placed). a.position)
@@ -75,18 +75,14 @@ pub record Laid (w : List ℕ) (s : Walk) (fs : List Open) (own : List Placed) (
   pub fewer : s.lists + length fs < s.actions
 
 pub record Noted (s : Walk) (fs : List Open) (own : List Placed) : Type 0 where
-  pub long : length s.table ≡ 1024
-  pub table : take s.places s.table ≡ marks fs ++ positions own
+  pub table : s.table.items ≡ marks fs ++ positions own
   pub first : length (marks fs) ≡ s.span.first
-  pub places : length own + s.span.first ≡ s.places
-  pub few : s.places ≤ s.actions
-  pub rising : Ordered s.table 0 s.places
-  pub below : (i : ℕ) → i < s.places → get_or s.table i 0 < s.at
+  pub few : length s.table.items ≤ s.actions
+  pub rising : Rises s.table.items
+  pub below : (i : ℕ) → i < length s.table.items → get_or s.table.items i 0 < s.at
 
 pub record Kept (s : Walk) (fs : List Open) : Type 0 where
-  pub long : length s.outer ≡ 1024
-  pub saved : take s.depth s.outer ≡ saves fs
-  pub depth : length fs ≡ s.depth
+  pub saved : s.outer.items ≡ saves fs
 
 pub record Stands (b w : List ℕ) (s : Walk) : Type 0 where
   pub strings : List Str

@@ -10,7 +10,7 @@ use Rattle.definition.specs.Outcome.{byte_limits}
 use Rattle.record_reader.specs.declared.Head.{Head}
 use Rattle.record_reader.specs.Heads.{head_at}
 use Rattle.action_reader.specs.declared.walk.Walk.{Walk}
-use Rattle.action_reader.specs.State.{is_end}
+use Rattle.action_reader.specs.State.{depth, is_end}
 use Rattle.action_reader.specs.View.{Stands}
 
 -- the bytes are no action bytes where the answer is `None`
@@ -25,7 +25,7 @@ pub record Done (b w : List ℕ) : Type 0 where
 
 -- what is left to do
 abbrev pub ahead : Walk → ℕ
-ahead s = (length s.bytes.now - s.at) * 2 + s.depth
+ahead s = (length s.bytes.now - s.at) * 2 + depth s
 
 -- reading goes on
 pub record Further (s r : Walk) (w : List ℕ) : Type 0 where
@@ -38,8 +38,8 @@ Stepped s r o w = OrRefused s.bytes.now o (λ _. Further s r w)
 
 -- neither a body nor the top list ends here
 pub record Inside (s : Walk) : Type 0 where
-  pub body : (s.depth ≡ 0 → ⊥) → s.at ≡ s.span.end → ⊥
-  pub top : s.depth ≡ 0 → is_end (drop s.at s.bytes.now) ≡ false
+  pub body : (depth s ≡ 0 → ⊥) → s.at ≡ s.span.end → ⊥
+  pub top : depth s ≡ 0 → is_end (drop s.at s.bytes.now) ≡ false
 
 -- the record that is next keeps the rules by itself, and there is room for its action
 pub record Next (w : List ℕ) (s : Walk) (h : Head) : Type 0 where

@@ -3,6 +3,7 @@
 ghost use Rattle.std.specs.Prelude.{◌≡◌, List, ℕ, ◌+◌, ◌*◌, ◌<◌, ◌≤◌, length, get_or, IfSome};
 ghost use Rattle.list_slice.specs.Entry.{Entry};
 ghost use Rattle.builder.specs.Entries.{put3};
+ghost use Rattle.action_reader.specs.State.{depth};
 ghost use Rattle.action_reader.specs.Lists.{Ready, Given, SettledAs, EndedAs, ClosedAs};
 
 use crate::places::place_of;
@@ -29,7 +30,7 @@ impl Walk<'_> {
         ensures low_bound { IfSome result (λ n. n ≤ 4096) }
         ensures settled_as { (low xs up : List Entry) (ends : List ℕ) → Given list.old self.now low xs up ends → SettledAs self.now low xs up ends result list.new }
     {
-        let positions = &self.table[self.span.first..self.places];
+        let positions = &self.table[self.span.first..];
         // The entry after the last that moved is the answer, so `low` is counted and not zipped.
         let mut low = self.low;
         for top in self.top..self.span.base {
@@ -57,19 +58,17 @@ impl Walk<'_> {
         requires ready { Ready list.old self.old }
         requires base_nonzero { 0 < self.old.span.base }
         requires first_nonzero { 0 < self.old.span.first }
-        requires depth_nonzero { 0 < self.old.depth }
-        requires depth_bound { self.old.depth ≤ 1024 }
+        requires depth_nonzero { 0 < depth self.old }
         ensures { (low xs up : List Entry) (ends : List ℕ) → Given list.old self.old low xs up ends → length ends ≡ self.old.lists →
             ClosedAs low xs up ends self.old self.new result list.new }
     {
         self.low = self.end_list(list)?;
         self.lists += 1;
         self.top = self.span.base - 1;
-        self.places = self.span.first;
-        let position = self.table[self.places - 1];
+        let position = self.table[self.span.first - 1];
+        self.table.truncate(self.span.first);
         put(list, self.top, code::FUNCTION, self.lists as u32, position);
-        self.depth -= 1;
-        self.span = self.outer[self.depth];
+        self.span = self.outer.pop()?;
         Some(())
     }
 }

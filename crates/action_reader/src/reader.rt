@@ -4,7 +4,8 @@ ghost use Rattle.list_slice.specs.Words.{zeros_of};
 ghost use Rattle.action_reader.specs.Walked.{OrRefused, Done};
 
 use crate::begin::begin;
-use crate::walk::{MAX_ACTIONS, Span, Walk};
+use crate::walk::{Span, Walk};
+use arrayvec::ArrayVec;
 use slice_words::MAX_ENTRIES;
 
 // `None` if the bytes are not action bytes. A step moves on by a record or out of a body, as the state says, so the loop asks the state and has nothing to count. The bytes and the
@@ -15,6 +16,8 @@ pub fn read_lists(bytes: &[u8], list: &mut [u32]) -> Option<()>
     ensures { OrRefused bytes.now result (λ x. Done bytes.now list.new) }
 {
     let (at, pool) = begin(bytes, list)?;
+    let mut table = ArrayVec::new();
+    table.push(0);
     let mut walk = Walk {
         bytes,
         at,
@@ -28,11 +31,9 @@ pub fn read_lists(bytes: &[u8], list: &mut [u32]) -> Option<()>
         low: 0,
         top: MAX_ENTRIES - 1,
         lists: 0,
-        places: 1,
-        depth: 0,
         pool,
-        table: [0; MAX_ACTIONS],
-        outer: [Span::default(); MAX_ACTIONS],
+        table,
+        outer: ArrayVec::new(),
     };
     while !walk.is_over() {
         walk.step(list)?;

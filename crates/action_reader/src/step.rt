@@ -58,7 +58,7 @@ impl Walk<'_> {
         requires more { is_over self.old ≡ false }
         ensures { Stepped self.old self.new result list.new }
     {
-        if self.depth != 0 {
+        if !self.outer.is_empty() {
             if self.at == self.span.end {
                 return self.close(list);
             }

@@ -1,8 +1,9 @@
 // Where reading is, and the steps that one record makes.
 ghost use Rattle.std.specs.Prelude.{◌≡◌, ◌+◌, ◌-◌, ◌<◌, ◌≤◌, length};
 ghost use Rattle.builder.specs.Entries.{put3};
-ghost use Rattle.action_reader.specs.State.{advanced, single_after, open_after, Roomy, is_over};
+ghost use Rattle.action_reader.specs.State.{advanced, single_after, open_after, Roomy, depth, is_over};
 
+use arrayvec::ArrayVec;
 use builder::entries::put;
 
 // The most actions and pushed values of the lists, as counts of what the walk holds.
@@ -18,9 +19,9 @@ pub struct Span {
     pub first: usize,
 }
 
-// The present list is read from `at` on. Its entries stand from entry `top` on, its positions in the table before `places`. Finished lists stand below entry `low`: the entries are
-// one slice, which the caller lends, so its areas are positions. `outer` has the spans of the lists around, as many as `depth` says. The list slice is no field, and no ghost field says
-// what its words stand for: after a refusal they stand for nothing.
+// The present list is read from `at` on. Its entries stand from entry `top` on, its positions in the table behind those of the lists around. Finished lists stand below entry `low`: the
+// entries are one slice, which the caller lends, so its areas are positions. `outer` has the spans of the lists around. The list slice is no field: what a step makes of the walk is one
+// equation (`advanced`, `single_after`), in which the words would stand too. No ghost field says what its words stand for: after a refusal they stand for nothing.
 #[derive(Drop)]
 pub struct Walk<'a> {
     pub bytes: &'a [u8],
@@ -31,11 +32,9 @@ pub struct Walk<'a> {
     pub low: usize,
     pub top: usize,
     pub lists: usize,
-    pub places: usize,
-    pub depth: usize,
     pub pool: usize,
-    pub table: [u32; MAX_ACTIONS],
-    pub outer: [Span; MAX_ACTIONS],
+    pub table: ArrayVec<u32, MAX_ACTIONS>,
+    pub outer: ArrayVec<Span, MAX_ACTIONS>,
 }
 
 // What moves on needs room for one more action (`Roomy`). It is no fact of every walk: one that is full stands, and is refused at the next record.
@@ -44,7 +43,7 @@ impl Walk<'_> {
     pub fn is_over(&self) -> bool
         ensures { result ≡ is_over self.now }
     {
-        self.depth == 0 && matches!(self.bytes.get(self.at..), Some([0]))
+        self.outer.is_empty() && matches!(self.bytes.get(self.at..), Some([0]))
     }
 
     // An action's record, which ends before `next`: its position joins the table.
@@ -52,10 +51,9 @@ impl Walk<'_> {
         requires { Roomy self.old }
         ensures { self.new ≡ advanced self.old next }
     {
-        self.table[self.places] = self.at as u32;
+        self.table.push(self.at as u32);
         self.at = next;
         self.actions += 1;
-        self.places += 1;
     }
 
     // An action of one entry, whose record ends before `next`. Its code is a word of the list slice, which programs in other languages read, and so a number.
@@ -75,18 +73,18 @@ impl Walk<'_> {
 
     // A function's body is the present list from now on.
     pub fn open_body(&mut self, size: usize, next: usize)
-        requires depth_bound { self.old.depth < 1024 }
+        requires depth_bound { depth self.old < 1024 }
         requires roomy { Roomy self.old }
-        requires size_bound { next + size ≤ self.old.span.end }
+        requires size_bound { next + size ≤ length self.old.bytes.now }
         ensures { self.new ≡ open_after self.old size next }
     {
         self.advance(next);
-        self.outer[self.depth] = self.span;
+        let around = self.span;
         self.span = Span {
             end: next + size,
             base: self.top,
-            first: self.places,
+            first: self.table.len(),
         };
-        self.depth += 1;
+        self.outer.push(around);
     }
 }

@@ -1,5 +1,6 @@
 use Rattle.std.proofs.Common.{arith}
 use Rattle.action_reader.proofs.Arms.{arm_pool, arm_plain, arm_branch, arm_push, arm_function}
+use Rattle.action_reader.proofs.Stepping.{end_inside, numbers}
 use Rattle.action_reader.proofs.walk.Walk.take.Goals as goal
 
 pub returns-in-Pool : goal.returns-in-Pool
@@ -45,7 +46,10 @@ pub returns-then-self-h : goal.returns-then-self-h
 returns-then-self-h c = (arm_function c.requires _ c.in-Function.is).short c.if-self-h.true
 
 pub open_body-requires-clause-size_bound : goal.open_body-requires-clause-size_bound
-open_body-requires-clause-size_bound c = omega (arith, (arm_function c.requires _ c.in-Function.is).inside, c.if-self-h.false)
+open_body-requires-clause-size_bound c = omega (arith, (arm_function c.requires _ c.in-Function.is).inside, c.if-self-h.false, end_inside c.requires.stands)
+
+pub open_body-requires-clause-depth_bound : goal.open_body-requires-clause-depth_bound
+open_body-requires-clause-depth_bound c = (numbers c.requires.stands).depth_few
 
 pub returns-else-self-h : goal.returns-else-self-h
 returns-else-self-h c = (arm_function c.requires _ c.in-Function.is).step c.if-self-h.false c.open_body.ensures
