@@ -95,25 +95,20 @@ fn is_sort(script: &ScriptFile, t: Tree, sort: Sort) -> bool
     }
 }
 
-// As many children as sorts, each of its sort. Two rows are walked, and both have to end at once, which `zip` does not tell. What is left of the part counts its
-// records: 0 is the end, and no lack of a count.
+// As many children as sorts, each of its sort. Both rows have to end at once, which `zip` does not tell.
 fn children_match(script: &ScriptFile, p: Part, sorts: &[Sort]) -> bool
     ensures { result ≡ matches (reverse sorts.now) (trees_in (rows_of script.now.bytes.now script.now.layout) p) }
 {
-    let mut part = p;
-    let mut left = sorts;
-    while let Some((sort, others)) = left.split_last() {
-        if part.n == 0 {
+    let mut trees = Siblings::new(script, p);
+    for sort in sorts.iter().rev() {
+        let Some(t) = trees.next() else {
             return false;
-        }
-        let t = script.last_tree(part);
+        };
         if !is_sort(script, t, *sort) {
             return false;
         }
-        part = t.before;
-        left = others;
     }
-    part.n == 0
+    trees.next().is_none()
 }
 
 // The words a, b, c of a record fit the scalars, in a file of so many strings.
