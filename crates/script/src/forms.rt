@@ -209,12 +209,14 @@ fn form_of_kind(kind: Kind, r: Row) -> Form
 }
 
 // The form of a record.
-pub(crate) fn form_of(r: Row) -> Form
-    ensures { form_as result ≡ form_of (words_of r) }
-{
-    match Kind::try_from(r.kind) {
-        Ok(kind) => form_of_kind(kind, r),
-        Err(_) => Form::Unknown,
+impl From<Row> for Form {
+    ghost from_gives = { λ r f. form_as f ≡ form_of (words_of r) };
+
+    fn from(r: Row) -> Self {
+        match Kind::try_from(r.kind) {
+            Ok(kind) => form_of_kind(kind, r),
+            Err(_) => Form::Unknown,
+        }
     }
 }
 

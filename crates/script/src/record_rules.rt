@@ -6,7 +6,7 @@ ghost use Rattle.script_records.specs.Parts.{trees_in};
 ghost use Rattle.script.specs.Rules.{record_holds};
 ghost use Rattle.script.specs.Siblings.{siblings_of};
 
-use crate::forms::{Class, Form, Scalar, Sort, form_of};
+use crate::forms::{Class, Form, Scalar, Sort};
 use script_records::kind::Kind;
 use script_records::layout::{Row, ScriptFile};
 use script_records::part::{Part, Tree};
@@ -132,7 +132,7 @@ fn form_fits(script: &ScriptFile, r: Row, p: Part, count: usize) -> bool
     requires { count ≡ trees (trees_in (rows_of script.now.bytes.now script.now.layout) p) }
     ensures { result ≡ fits script.now.layout.strings (words_of r) (trees_in (rows_of script.now.bytes.now script.now.layout) p) }
 {
-    match form_of(r) {
+    match Form::from(r) {
         Form::Words { a, b, c, children } => {
             scalars_fit(r, a, b, c, script.layout.strings) && children_match(script, p, children)
         }

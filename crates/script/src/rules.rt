@@ -1,4 +1,4 @@
-// The rules of the whole file, one function for each.
+// The rules of the whole file, one function for each. Two join the test of every number below one with another test, and share that `&&` alone.
 ghost use Rattle.std.specs.Prelude.{◌≡◌, ltb};
 ghost use Rattle.hir.specs.Tree.{depth};
 ghost use Rattle.script_records.specs.Layout.{rows_of, strings_of};

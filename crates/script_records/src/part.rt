@@ -23,13 +23,15 @@ pub struct Tree {
 
 // The last subtree, if it has so many records.
 fn sized(row: Row, p: Part, at: usize, s: usize) -> Tree
-    requires le_s { 1 ≤ s }
     requires s_le_n { s ≤ p.n }
     ensures { result ≡ record { row = row; children = record { end = at; n = s - 1 }; before = record { end = p.end - s; n = p.n - s } } }
 {
     Tree {
         row,
-        children: Part { end: at, n: s - 1 },
+        children: Part {
+            end: at,
+            n: s.saturating_sub(1),
+        },
         before: Part {
             end: p.end.saturating_sub(s),
             n: p.n - s,
@@ -62,16 +64,6 @@ impl ScriptFile<'_> {
             }
         }
         let s = (row.size as usize).max(1).min(p.n);
-        Tree {
-            row,
-            children: Part {
-                end: at,
-                n: s.saturating_sub(1),
-            },
-            before: Part {
-                end: p.end.saturating_sub(s),
-                n: p.n - s,
-            },
-        }
+        sized(row, p, at, s)
     }
 }
