@@ -45,6 +45,8 @@ literal_is F r = literal_at F (root_shape r) ∙ ap meaning.literal (shape_is F 
 -- what a shape's strings name, its record's strings name
 kind_named : (F : List ℕ) (i : ℕ) (k : ExprKind) → T (expr_named F i k) → (c : ConstantKind) → kind_shape k ≡ Constant c → T (constant_named F c)
 kind_named F i (expr.Constant c) h d e = let x : c ≡ d = cc in rw (← x) h
+kind_named F i (expr.Function None r m) h d e = cc
+kind_named F i (expr.Function (Some n) r m) h d e = cc
 kind_named F i _ h d e = cc
 
 pub shape_named : (F : List ℕ) (i : ℕ) (r : Record) → T (record_named F i r) → (c : ConstantKind) → root_shape r ≡ Constant c → T (constant_named F c)
