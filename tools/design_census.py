@@ -80,7 +80,7 @@ def one_line(text):
 
 def fns_of(path, text):
     found = []
-    pattern = re.compile(r'^( *)(pub )?(?:extern "C" )?fn (\w+)(<[^(]*>)?\(', re.M)
+    pattern = re.compile(r'^( *)(pub(?:\([a-z]+\))? )?(?:extern "C" )?fn (\w+)(<[^{;]*?>)?\(', re.M)
     for m in pattern.finditer(text):
         f = Fn()
         f.path, f.name, f.indent, f.public = path, m.group(3), m.group(1), bool(m.group(2))
@@ -113,7 +113,7 @@ def fns_of(path, text):
 
 def types_of(path, text):
     found = []
-    for m in re.finditer(r'^(?:pub )?(struct|enum) (\w+)(?:<[^>]*>)? \{\n(.*?)^\}', text, re.M | re.S):
+    for m in re.finditer(r'^(?:pub(?:\([a-z]+\))? )?(struct|enum) (\w+)(?:<[^>]*>)? \{\n(.*?)^\}', text, re.M | re.S):
         t = Type()
         t.path, t.sort, t.name = path, m.group(1), m.group(2)
         t.parts = split_top(one_line(m.group(3)), ',')
@@ -515,7 +515,7 @@ def point4():
 # ---------------------------------------------------------------- point 5
 
 def plain_type(k):
-    return re.sub(r'^&(?:mut )?', '&', k)
+    return re.sub(r"^&(?:'\w+ )?(?:mut )?", '&', k)
 
 
 def facts_of(f):
@@ -584,10 +584,10 @@ AREAS = {'12288': 'labels', '13311': 'list ends', '13312': 'list ends', '14336':
 def point6():
     found = []
     for p in PATHS:
-        for m in re.finditer(r'^(?:pub )?const (\w+): (\[.*?\]) =', TEXTS[p], re.M):
+        for m in re.finditer(r'^(?:pub(?:\([a-z]+\))? )?const (\w+): (\[.*?\]) =', TEXTS[p], re.M):
             padded = '\\0' in TEXTS[p][m.end():m.end() + 120]
             found.append((f'{short(p)}: {m.group(1)}', f'table {m.group(2)}' + (', rows filled up with zeros' if padded else '')))
-        for m in re.finditer(r'^(?:pub )?const (\w+): u?\w+ = (\d+);', TEXTS[p], re.M):
+        for m in re.finditer(r'^(?:pub(?:\([a-z]+\))? )?const (\w+): u?\w+ = (\d+);', TEXTS[p], re.M):
             found.append((f'{short(p)}: {m.group(1)}', f'length or position {m.group(2)} of a table, beside it'))
     for t in TYPES:
         parts = [x.replace('pub ', '') for x in t.parts]
@@ -656,8 +656,8 @@ def point7():
             found.append((place(f), f'parameter {", ".join(bools)} chooses the step'))
         for m in re.finditer(r'match ([\w.\[\]]+) \{\n(.*?)^ +\}', f.body, re.M | re.S):
             arms = re.findall(r'=> ([^\n]*)', m.group(2))
-            calls = [a for a in arms if re.match(r'\w+\(', a)]
-            names = set(re.match(r'\w+', a).group(0) for a in calls)
+            calls = [a for a in arms if re.match(r'(?:\w+(?:\.|::))*[a-z]\w*\(', a)]
+            names = set(re.match(r'(?:\w+(?:\.|::))*(\w+)', a).group(1) for a in calls)
             if len(names) >= 3 or len(calls) >= 3 and len(arms) >= 4:
                 found.append((place(f), f'match {m.group(1)}: {len(calls)} arms call {len(names)} functions'))
         chain = re.findall(r'^ +if (\w+) (?:==|<) (0x[0-9a-f]+|\d+) \{\n +return (\w+)\(', f.body, re.M)

@@ -1,5 +1,4 @@
--- Tried without these answers: the check of the ring's 305 goals had not ended after ten minutes, and with them it takes one. Each goal has names of its own, so
--- that goals with one proof have an answer each; what they share is a lemma, as `in_kids` for a call with a node's children.
+-- Each goal has names of its own, so that goals with one proof have an answer each; what they share is a lemma.
 use Rattle.statement.proofs.Arms.{statements_arm, unhoisted_arm, field_arm, test_arm, block_arm, local_arm, local_none_arm, no_values_arm, values_arm, switch_arm, switch_cases_arm, no_tests_arm, tests_arm, while_arm, for_in_arm, for_loop_arm, ends_arm, if_both_arm, if_one_arm, void_arm, trivial_arm, trivial_not_arm, trivial_assign_arm, assign_arm, and_arm, or_arm, bit_not_arm, not_arm, minus_arm, adjust_arm, kept_arm, delete_arm, ternary_arm, array_arm, object_arm, copy_arm, goto_label_arm, goto_frame_arm, goto_arm, drag_arm, drag_within_arm, get_property_arm, set_property_arm, call_arm, new_arm, direct_arm, object_access_arm}
 use borrow.Author.Rules.{rules}
 use borrow.Author.Tests.{not-true, lt-ltb, eqb-false}
@@ -26,7 +25,7 @@ use Rattle.access.proofs.Texts.{text_is}
 use Rattle.rows.specs.Rows.{loop_of}
 use Rattle.rows.proofs.Kept.{one_most}
 use Rattle.leaves.proofs.Args.{expr_at, args_again, args_stopped, args_done}
-use Rattle.statement.proofs.Laws.{rec_is, element_at, value_at, value_live, no_expr, statement_at, no_statement, untested, access_at, literal_of, none_at, labels_counted, labels_less, default_less, switching, no_labels, some_labels, function_at, function_size, literal_named, field_live, kids_less, in_kids, number_less, plain_access, bit_is, rank_least, rank_most, rank_kept}
+use Rattle.statement.proofs.Laws.{rec_is, element_at, value_at, value_live, no_expr, statement_at, no_statement, untested, access_at, literal_of, none_at, labels_counted, labels_less, default_less, switching, no_labels, some_labels, function_at, function_size, literal_named, field_live, kids_less, in_kids, number_less, plain_access, bit_is, rank_least, rank_kept}
 use Rattle.statement.proofs.Walks.{start, walked, acted, built, pushed, walks, walk}
 use Rattle.builder.proofs.Runs.{same_list_then, keeps_then, index_stays}
 use Rattle.statement.proofs.Lists.{pop_holds, pop_top, pop_inside, pop_fits, pop_below, pop_few, pop_again, pop_stopped, pop_done, element_few}
@@ -41,12 +40,6 @@ adjust-adjust-requires t c = (omega (arith, c.decreases, c.requires.fits, c.for_
 pub adjust-for_expr-access-requires : goal.adjust-for_expr-access-requires
 adjust-for_expr-access-requires t c = (omega (arith, c.decreases, c.requires.fits, c.for_expr.auto.scratch, rank_least c.args.discard), walk (walked c.for_expr.ensures start) c.requires.script (omega (arith, c.requires.fits, c.for_expr.auto.scratch, rank_least c.args.discard)))
 
-pub adjust-for_expr-old-requires : goal.adjust-for_expr-old-requires
-adjust-for_expr-old-requires t c = (omega (arith, c.decreases, c.requires.fits, rank_least c.args.discard), walk start c.requires.script (omega (arith, c.requires.fits, rank_least c.args.discard)))
-
-pub adjust-for_expr-requires : goal.adjust-for_expr-requires
-adjust-for_expr-requires t c = (omega (arith, c.decreases, c.requires.fits, rank_least c.args.discard), walk start c.requires.script (omega (arith, c.requires.fits, rank_least c.args.discard)))
-
 pub adjust-invariant_of-context : goal.adjust-invariant_of-context
 adjust-invariant_of-context t c = record { laid_out = c.for_expr-old.new.context.laid_out; indexed = index_stays (c.get_value.ensures (file_of c.args.t.now)).keeps.pool c.for_expr-old.new.context.indexed }
 
@@ -59,16 +52,8 @@ adjust-returns t c = walks (built {d = c.for_expr-access.new.context} (keeps_the
 pub adjust-returns-then-keeps_old : goal.adjust-returns-then-keeps_old
 adjust-returns-then-keeps_old t c = walks (walked c.adjust.ensures (built {d = c.for_expr-old.new.context} (c.get_value.ensures (file_of c.args.t.now)).keeps.list (walked c.for_expr-old.ensures start))) (kept_arm c.args.t.now.script.layout c.args.t.now.part c.args.o c.args.affix c.args.discard c.keeps_old.ensures c.if-keeps_old.true c.for_expr-old.ensures.does (c.get_value.ensures (file_of c.args.t.now)).does c.adjust.ensures.does)
 
-pub args-gen_expr-requires : goal.args-gen_expr-requires
-args-gen_expr-requires t c =
-    let i = c.loop-tree.invariant in
-    rw c.in-Some.ensures.steps.0 (omega (arith, c.decreases, i.0.args.fewer), record { script = i.0.script ∙ c.requires.walk.script ∙ sym i.0.trees; fits = omega (arith, i.0.args.fewer, c.requires.walk.fits, i.1) })
-
 pub args-invariant_of-context : goal.args-invariant_of-context
 args-invariant_of-context t c = record { laid_out = c.loop-tree.context.laid_out; indexed = index_stays (c.push_count.ensures (file_of c.args.t.now)).keeps.pool c.loop-tree.context.indexed }
-
-pub args-loop-tree-init : goal.args-loop-tree-init
-args-loop-tree-init t c = rw c.into_iter-tree-iterator.ensures.into_iter_gives (c.push_constants-left.ensures, refl)
 
 pub args-loop-tree-preserved : goal.args-loop-tree-preserved
 args-loop-tree-preserved t c =
@@ -84,9 +69,6 @@ args-loop-tree-preserved t c =
       c.gen_expr.auto.scratch ∙ i.1,
     )
 
-pub args-push_constants-left-requires : goal.args-push_constants-left-requires
-args-push_constants-left-requires t c = c.requires.walk.script
-
 pub args-returns : goal.args-returns
 args-returns t c =
     let i = c.loop-tree.invariant.0 in
@@ -94,15 +76,6 @@ args-returns t c =
 
 pub args-returns-then-is_some : goal.args-returns-then-is_some
 args-returns-then-is_some t c = walks (pushed c.loop-tree.invariant.0) (args_stopped c.loop-tree.invariant.0.args (sym c.if-is_some.ensures))
-
-pub drag-each-requires : goal.drag-each-requires
-drag-each-requires t c = (omega (arith, c.decreases, c.requires.fits, c.kid-target.ensures.kid.fewer, c.list-es.ensures.list.fewer), (walk start (c.requires.script ∙ sym c.list-es.ensures.script) (omega (arith, c.requires.fits, c.kid-target.ensures.kid.fewer, c.list-es.ensures.list.fewer)), omega (arith, c.requires.fits, c.kid-target.ensures.kid.fewer, c.list-es.ensures.list.fewer, c.args.t.now.within.known, c.args.t.now.within.sound.few, c.args.t.now.within.inside)))
-
-pub drag-gen_expr-requires : goal.drag-gen_expr-requires
-drag-gen_expr-requires t c = (omega (arith, c.decreases, c.requires.fits, c.kid-target.ensures.kid.fewer, c.list-es.ensures.list.fewer), walk (built {d = c.args.context.now} (keeps_then c.push.ensures.keeps c.push-then-is_empty.ensures.keeps).list start) (c.requires.script ∙ sym c.kid-target.ensures.script) (omega (arith, c.requires.fits, c.kid-target.ensures.kid.fewer, c.list-es.ensures.list.fewer)))
-
-pub drag-gen_expr-requires-2 : goal.drag-gen_expr-requires-2
-drag-gen_expr-requires-2 t c = (omega (arith, c.decreases, c.requires.fits, c.kid-target.ensures.kid.fewer, c.list-es.ensures.list.fewer, c.each.auto.scratch), walk (built {d = c.each.new.context} (keeps_then c.push-2.ensures.keeps c.push-3.ensures.keeps).list (walked c.each.ensures start)) (c.requires.script ∙ sym c.kid-target.ensures.script) (omega (arith, c.requires.fits, c.kid-target.ensures.kid.fewer, c.list-es.ensures.list.fewer, c.each.auto.scratch)))
 
 pub drag-invariant_of-context : goal.drag-invariant_of-context
 drag-invariant_of-context t c = record { laid_out = c.args.context.now.laid_out; indexed = index_stays (keeps_then c.push.ensures.keeps c.push-then-is_empty.ensures.keeps).pool c.args.context.now.indexed }
@@ -124,9 +97,6 @@ drag-returns-then-is_empty t c = walks (built {d = c.gen_expr.new.context} (c.ac
 
 pub each-bounds-scratch-top : goal.each-bounds-scratch-top
 each-bounds-scratch-top t c = pop_inside c.loop-top.invariant.0 c.loop-top-test.true
-
-pub each-ends_of-count-requires : goal.each-ends_of-count-requires
-each-ends_of-count-requires t c = c.requires.walk.fits
 
 pub each-invariant_of-trees : goal.each-invariant_of-trees
 each-invariant_of-trees t c = record { within = (pop_top c.loop-top.invariant.0 c.loop-top-test.true).within }
@@ -155,9 +125,6 @@ each-overflow_add-cases t c = omega (arith, (pop_few c.loop-top.invariant.0 c.lo
 pub each-overflow_add-seen : goal.each-overflow_add-seen
 each-overflow_add-seen t c = omega (arith, (pop_few c.loop-top.invariant.0 c.loop-top-test.true c.args.t.now.part.n (omega (arith, c.args.t.now.within.inside))).0, (c.from-seen.ensures ∙ c.is_labelled.ensures), (element_few c.element-e.result).0, c.args.t.now.within.inside, c.args.t.now.within.known, c.args.t.now.within.sound.few)
 
-pub each-overflow_sub-start : goal.each-overflow_sub-start
-each-overflow_sub-start t c = omega (arith, c.args.t.now.within.inside)
-
 pub each-overflow_sub-trees : goal.each-overflow_sub-trees
 each-overflow_sub-trees t c = let p = pop_top c.loop-top.invariant.0 c.loop-top-test.true in omega (arith, p.up, p.idle.up, c.loop-top.invariant.0.low)
 
@@ -179,9 +146,6 @@ each-slice_bounds-one-start t c = omega (arith, pop_inside c.loop-top.invariant.
 pub ends-each-requires : goal.ends-each-requires
 ends-each-requires t c = (omega (arith, c.decreases, c.requires.fits, ap (λ (x : Part). x.n) c.rest-before.ensures.part, (is_node _ _ _ c.args.t.now.within refl).apart, (is_node _ _ _ c.args.t.now.within refl).real), (walk start (c.requires.script ∙ sym c.rest-before.ensures.script) (omega (arith, c.requires.fits, ap (λ (x : Part). x.n) c.rest-before.ensures.part, (is_node _ _ _ c.args.t.now.within refl).apart, (is_node _ _ _ c.args.t.now.within refl).real)), omega (arith, c.requires.fits, ap (λ (x : Part). x.n) c.rest-before.ensures.part, (is_node _ _ _ c.args.t.now.within refl).apart, (is_node _ _ _ c.args.t.now.within refl).real, c.args.t.now.within.known, c.args.t.now.within.sound.few, c.args.t.now.within.inside)))
 
-pub ends-gen_expr-requires : goal.ends-gen_expr-requires
-ends-gen_expr-requires t c = (omega (arith, c.decreases, c.requires.fits, ap (λ (x : Part). x.n) c.rest-before.ensures.part, (is_node _ _ _ c.args.t.now.within refl).apart, (is_node _ _ _ c.args.t.now.within refl).real, c.each.auto.scratch), walk (walked c.each.ensures start) c.requires.script (omega (arith, c.requires.fits, ap (λ (x : Part). x.n) c.rest-before.ensures.part, (is_node _ _ _ c.args.t.now.within refl).apart, (is_node _ _ _ c.args.t.now.within refl).real, c.each.auto.scratch)))
-
 pub ends-invariant_of-context : goal.ends-invariant_of-context
 ends-invariant_of-context t c = record { laid_out = c.gen_expr.new.context.laid_out; indexed = index_stays (keeps_then (c.action.ensures (file_of c.args.t.now)).keeps (c.branch-context.ensures (file_of c.args.t.now)).keeps).pool c.gen_expr.new.context.indexed }
 
@@ -190,9 +154,6 @@ ends-returns t c = walks (built {d = c.gen_expr.new.context} (keeps_then (c.acti
 
 pub ends-returns-then-is_empty : goal.ends-returns-then-is_empty
 ends-returns-then-is_empty t c = walks start (rw (none_at (file_of c.args.t.now) c.args.t.now.part (no_trees c.if-is_empty.ensures)) (idle c.args.context.now.builder.fine))
-
-pub exit-each-requires : goal.exit-each-requires
-exit-each-requires t c = (omega (arith, c.decreases, c.requires.fits, c.list-es.ensures.list.fewer), (walk start (c.requires.script ∙ sym c.list-es.ensures.script) (omega (arith, c.requires.fits, c.list-es.ensures.list.fewer)), omega (arith, c.requires.fits, c.list-es.ensures.list.fewer, c.args.t.now.within.known, c.args.t.now.within.sound.few, c.args.t.now.within.inside)))
 
 pub exit-invariant_of-context : goal.exit-invariant_of-context
 exit-invariant_of-context t c = record { laid_out = c.args.context.now.laid_out; indexed = index_stays (keeps_then c.push.ensures.keeps (c.action.ensures (file_of c.args.t.now)).keeps).pool c.args.context.now.indexed }
@@ -209,9 +170,6 @@ exit-returns-then-is_empty t c = walks (built {d = c.args.context.now} (keeps_th
 pub for_expr-each-requires : goal.for_expr-each-requires
 for_expr-each-requires t c = (omega (arith, c.decreases, c.requires.fits, (is_node _ _ _ c.args.t.now.within c.node-node.ensures.node).apart, (is_node _ _ _ c.args.t.now.within c.node-node.ensures.node).real, field_live c.node-node.result.root (sym c.from.ensures ∙ c.in-Field.is)), (walk start (c.requires.script ∙ sym c.node-node.ensures.children) (omega (arith, c.requires.fits, (is_node _ _ _ c.args.t.now.within c.node-node.ensures.node).apart, (is_node _ _ _ c.args.t.now.within c.node-node.ensures.node).real, field_live c.node-node.result.root (sym c.from.ensures ∙ c.in-Field.is))), omega (arith, c.requires.fits, (is_node _ _ _ c.args.t.now.within c.node-node.ensures.node).apart, (is_node _ _ _ c.args.t.now.within c.node-node.ensures.node).real, field_live c.node-node.result.root (sym c.from.ensures ∙ c.in-Field.is), c.args.t.now.within.known, c.args.t.now.within.sound.few, c.args.t.now.within.inside)))
 
-pub for_expr-gen_expr-requires : goal.for_expr-gen_expr-requires
-for_expr-gen_expr-requires t c = (omega (arith, c.decreases, c.requires.fits, (is_node _ _ _ c.args.t.now.within c.node-node.ensures.node).apart, (is_node _ _ _ c.args.t.now.within c.node-node.ensures.node).real), walk start c.requires.script (omega (arith, c.requires.fits, (is_node _ _ _ c.args.t.now.within c.node-node.ensures.node).apart, (is_node _ _ _ c.args.t.now.within c.node-node.ensures.node).real)))
-
 pub for_expr-returns-in-Constant : goal.for_expr-returns-in-Constant
 for_expr-returns-in-Constant t c = walks (acted (c.for_constant.ensures (rw c.requires.script c.args.t.now.within.sound.short) (rw c.requires.script (shape_named (file_of c.args.t.now) c.node-node.result.number c.node-node.result.root (is_node _ _ _ c.args.t.now.within c.node-node.ensures.node).named _ (sym c.from.ensures ∙ c.in-Constant.is)))) start) (rw (access_at (is_node _ _ _ c.args.t.now.within c.node-node.ensures.node), ← shape_is (file_of c.args.t.now) c.node-node.result.root, ← c.from.ensures, c.in-Constant.is) (rw c.requires.script at (c.for_constant.ensures (rw c.requires.script c.args.t.now.within.sound.short) (rw c.requires.script (shape_named (file_of c.args.t.now) c.node-node.result.number c.node-node.result.root (is_node _ _ _ c.args.t.now.within c.node-node.ensures.node).named _ (sym c.from.ensures ∙ c.in-Constant.is)))).does))
 
@@ -223,36 +181,6 @@ for_expr-returns-in-NamedFunction t c = walks (walked c.gen_expr.ensures start) 
 
 pub for_expr-returns-then-is_some : goal.for_expr-returns-then-is_some
 for_expr-returns-then-is_some t c = walks start (stays (sym c.if-is_some.ensures) c.args.context.now.builder.fine)
-
-pub gen_binary_op-each-requires : goal.gen_binary_op-each-requires
-gen_binary_op-each-requires t c = (omega (arith, c.decreases, c.requires.fits, c.kid-left.ensures.kid.fewer), (walk start c.requires.script (omega (arith, c.requires.fits, c.kid-left.ensures.kid.fewer)), omega (arith, c.requires.fits, c.kid-left.ensures.kid.fewer, c.args.t.now.within.known, c.args.t.now.within.sound.few, c.args.t.now.within.inside)))
-
-pub gen_binary_op-each-requires-in-TrivialAssign : goal.gen_binary_op-each-requires-in-TrivialAssign
-gen_binary_op-each-requires-in-TrivialAssign t c = (omega (arith, c.decreases, c.requires.fits, c.kid-left.ensures.kid.fewer, c.for_expr-access.auto.scratch), (walk (walked c.for_expr-access.ensures start) c.requires.script (omega (arith, c.requires.fits, c.kid-left.ensures.kid.fewer, c.for_expr-access.auto.scratch)), omega (arith, c.requires.fits, c.kid-left.ensures.kid.fewer, c.for_expr-access.auto.scratch, c.args.t.now.within.known, c.args.t.now.within.sound.few, c.args.t.now.within.inside)))
-
-pub gen_binary_op-each-requires-in-TrivialNot : goal.gen_binary_op-each-requires-in-TrivialNot
-gen_binary_op-each-requires-in-TrivialNot t c = (omega (arith, c.decreases, c.requires.fits, c.kid-left.ensures.kid.fewer), (walk start c.requires.script (omega (arith, c.requires.fits, c.kid-left.ensures.kid.fewer)), omega (arith, c.requires.fits, c.kid-left.ensures.kid.fewer, c.args.t.now.within.known, c.args.t.now.within.sound.few, c.args.t.now.within.inside)))
-
-pub gen_binary_op-for_expr-access-requires : goal.gen_binary_op-for_expr-access-requires
-gen_binary_op-for_expr-access-requires t c = (omega (arith, c.decreases, c.requires.fits, c.kid-left.ensures.kid.fewer), walk start (c.requires.script ∙ sym c.kid-left.ensures.script) (omega (arith, c.requires.fits, c.kid-left.ensures.kid.fewer)))
-
-pub gen_binary_op-for_expr-access-requires-in-Assign : goal.gen_binary_op-for_expr-access-requires-in-Assign
-gen_binary_op-for_expr-access-requires-in-Assign t c = (omega (arith, c.decreases, c.requires.fits, c.kid-left.ensures.kid.fewer), walk start (c.requires.script ∙ sym c.kid-left.ensures.script) (omega (arith, c.requires.fits, c.kid-left.ensures.kid.fewer)))
-
-pub gen_binary_op-gen_expr-requires : goal.gen_binary_op-gen_expr-requires
-gen_binary_op-gen_expr-requires t c = (omega (arith, c.decreases, c.requires.fits, c.kid-left.ensures.kid.fewer, c.for_expr-access-in-Assign.auto.scratch), walk (walked c.for_expr-access-in-Assign.ensures start) c.requires.script (omega (arith, c.requires.fits, c.kid-left.ensures.kid.fewer, c.for_expr-access-in-Assign.auto.scratch)))
-
-pub gen_binary_op-gen_expr-requires-in-LogicalAnd : goal.gen_binary_op-gen_expr-requires-in-LogicalAnd
-gen_binary_op-gen_expr-requires-in-LogicalAnd t c = (omega (arith, c.decreases, c.requires.fits, c.kid-left.ensures.kid.fewer), walk (built {d = c.args.context.now} (c.create_label-end.ensures (file_of c.args.t.now)).keeps.list start) (c.requires.script ∙ sym c.kid-left.ensures.script) (omega (arith, c.requires.fits, c.kid-left.ensures.kid.fewer)))
-
-pub gen_binary_op-gen_expr-requires-in-LogicalAnd-2 : goal.gen_binary_op-gen_expr-requires-in-LogicalAnd-2
-gen_binary_op-gen_expr-requires-in-LogicalAnd-2 t c = (omega (arith, c.decreases, c.requires.fits, c.kid-left.ensures.kid.fewer, c.gen_expr-in-LogicalAnd.auto.scratch), walk (built {d = c.gen_expr-in-LogicalAnd.new.context} (keeps_then (c.action-in-LogicalAnd.ensures (file_of c.args.t.now)).keeps (keeps_then (c.action-in-LogicalAnd-2.ensures (file_of c.args.t.now)).keeps (keeps_then (c.branch-context.ensures (file_of c.args.t.now)).keeps (c.action-in-LogicalAnd-3.ensures (file_of c.args.t.now)).keeps))).list (walked c.gen_expr-in-LogicalAnd.ensures (built {d = c.args.context.now} (c.create_label-end.ensures (file_of c.args.t.now)).keeps.list start))) c.requires.script (omega (arith, c.requires.fits, c.kid-left.ensures.kid.fewer, c.gen_expr-in-LogicalAnd.auto.scratch)))
-
-pub gen_binary_op-gen_expr-requires-in-LogicalOr : goal.gen_binary_op-gen_expr-requires-in-LogicalOr
-gen_binary_op-gen_expr-requires-in-LogicalOr t c = (omega (arith, c.decreases, c.requires.fits, c.kid-left.ensures.kid.fewer), walk (built {d = c.args.context.now} (c.create_label-end-in-LogicalOr.ensures (file_of c.args.t.now)).keeps.list start) (c.requires.script ∙ sym c.kid-left.ensures.script) (omega (arith, c.requires.fits, c.kid-left.ensures.kid.fewer)))
-
-pub gen_binary_op-gen_expr-requires-in-LogicalOr-2 : goal.gen_binary_op-gen_expr-requires-in-LogicalOr-2
-gen_binary_op-gen_expr-requires-in-LogicalOr-2 t c = (omega (arith, c.decreases, c.requires.fits, c.kid-left.ensures.kid.fewer, c.gen_expr-in-LogicalOr.auto.scratch), walk (built {d = c.gen_expr-in-LogicalOr.new.context} (keeps_then (c.action-in-LogicalOr.ensures (file_of c.args.t.now)).keeps (keeps_then (c.branch-context-in-LogicalOr.ensures (file_of c.args.t.now)).keeps (c.action-in-LogicalOr-2.ensures (file_of c.args.t.now)).keeps)).list (walked c.gen_expr-in-LogicalOr.ensures (built {d = c.args.context.now} (c.create_label-end-in-LogicalOr.ensures (file_of c.args.t.now)).keeps.list start))) c.requires.script (omega (arith, c.requires.fits, c.kid-left.ensures.kid.fewer, c.gen_expr-in-LogicalOr.auto.scratch)))
 
 pub gen_binary_op-invariant_of-context : goal.gen_binary_op-invariant_of-context
 gen_binary_op-invariant_of-context t c = record { laid_out = c.each.new.context.laid_out; indexed = index_stays (c.action.ensures (file_of c.args.t.now)).keeps.pool c.each.new.context.indexed }
@@ -302,17 +230,11 @@ gen_binary_op-returns-in-TrivialAssign t c = walks (built {d = c.each-in-Trivial
 pub gen_binary_op-returns-in-TrivialNot : goal.gen_binary_op-returns-in-TrivialNot
 gen_binary_op-returns-in-TrivialNot t c = walks (built {d = c.each-in-TrivialNot.new.context} (keeps_then (c.action-in-TrivialNot.ensures (file_of c.args.t.now)).keeps (c.action-in-TrivialNot-2.ensures (file_of c.args.t.now)).keeps).list (walked c.each-in-TrivialNot.ensures start)) (rw (← c.from.ensures, c.in-TrivialNot.is) (trivial_not_arm c.args.t.now.script.layout c.args.t.now.part (loop_of c.no_loop-idle-in-TrivialNot.result) _ c.each-in-TrivialNot.ensures.does (c.action-in-TrivialNot.ensures (file_of c.args.t.now)).does (c.action-in-TrivialNot-2.ensures (file_of c.args.t.now)).does))
 
-pub gen_call-args-requires : goal.gen_call-args-requires
-gen_call-args-requires t c = (omega (arith, c.decreases, c.requires.fits, c.kid-name.ensures.kid.fewer, c.list-es.ensures.list.fewer), (walk start (c.requires.script ∙ sym c.list-es.ensures.script) (omega (arith, c.requires.fits, c.kid-name.ensures.kid.fewer, c.list-es.ensures.list.fewer)), c.width-n.ensures))
-
 pub gen_call-call-requires : goal.gen_call-call-requires
 gen_call-call-requires t c = omega (arith, c.width-n.ensures, width_less (file_of c.list-es.result) c.list-es.result.part, c.list-es.ensures.list.fewer, c.args.t.now.within.known, c.args.t.now.within.sound.few, c.args.t.now.within.inside)
 
 pub gen_call-call_new-requires : goal.gen_call-call_new-requires
 gen_call-call_new-requires t c = omega (arith, c.width-n.ensures, width_less (file_of c.list-es.result) c.list-es.result.part, c.list-es.ensures.list.fewer, c.args.t.now.within.known, c.args.t.now.within.sound.few, c.args.t.now.within.inside)
-
-pub gen_call-for_expr-access-requires : goal.gen_call-for_expr-access-requires
-gen_call-for_expr-access-requires t c = (omega (arith, c.decreases, c.requires.fits, c.kid-name.ensures.kid.fewer, c.list-es.ensures.list.fewer, c.args-2.auto.scratch), walk (walked c.args-2.ensures start) (c.requires.script ∙ sym c.kid-name.ensures.script) (omega (arith, c.requires.fits, c.kid-name.ensures.kid.fewer, c.list-es.ensures.list.fewer, c.args-2.auto.scratch)))
 
 pub gen_call-invariant_of-context : goal.gen_call-invariant_of-context
 gen_call-invariant_of-context t c = record { laid_out = c.for_expr-access.new.context.laid_out; indexed = index_stays (c.call_new.ensures (file_of c.args.t.now)).keeps.pool c.for_expr-access.new.context.indexed }
@@ -416,14 +338,8 @@ gen_expr-invariant_of-context-in-SetProperty t c = record { laid_out = c.gen_exp
 pub gen_expr-invariant_of-context-in-SetProperty-2 : goal.gen_expr-invariant_of-context-in-SetProperty-2
 gen_expr-invariant_of-context-in-SetProperty-2 t c = record { laid_out = c.gen_expr-in-SetProperty-2.new.context.laid_out; indexed = index_stays (c.action-in-SetProperty.ensures (file_of c.args.t.now)).keeps.pool c.gen_expr-in-SetProperty-2.new.context.indexed }
 
-pub gen_expr-leaves_value-up-requires : goal.gen_expr-leaves_value-up-requires
-gen_expr-leaves_value-up-requires t c = c.args.t.now.within.layout
-
 pub gen_expr-overflow_add-n : goal.gen_expr-overflow_add-n
 gen_expr-overflow_add-n t c = omega (arith, c.width-n.ensures, width_less (file_of c.list-es.result) c.list-es.result.part, c.list-es.ensures.list.fewer, (is_node _ _ _ c.args.t.now.within c.node-node.ensures.node).apart, c.args.t.now.within.known, c.args.t.now.within.sound.few, c.args.t.now.within.inside)
-
-pub gen_expr-read_constant-requires-clause-file_len_bound : goal.gen_expr-read_constant-requires-clause-file_len_bound
-gen_expr-read_constant-requires-clause-file_len_bound t c = rw c.requires.script c.args.t.now.within.sound.short
 
 pub gen_expr-read_constant-requires-clause-t : goal.gen_expr-read_constant-requires-clause-t
 gen_expr-read_constant-requires-clause-t t c = rw c.requires.script (rw (c.in-Expr.is, c.in-Constant.is) at (is_node _ _ _ c.args.t.now.within c.node-node.ensures.node).named)
@@ -494,21 +410,6 @@ gen_expr-returns-then-is_some t c = walks start (stays (sym c.if-is_some.ensures
 pub gen_for_loop-each-requires : goal.gen_for_loop-each-requires
 gen_for_loop-each-requires t c = (omega (arith, c.decreases, c.requires.walk.fits, c.kid-initialize.ensures.kid.fewer, c.list-conditions.ensures.list.fewer, c.list-update.ensures.list.fewer, c.gen_statement-in-Classic.auto.scratch, c.ends.auto.scratch, c.gen_statement-in-Classic-2.auto.scratch), (walk (built {d = c.gen_statement-in-Classic-2.new.context} (c.mark_label-in-Classic-2.ensures (file_of c.args.t.now)).keeps.list (walked c.gen_statement-in-Classic-2.ensures (walked c.ends.ensures (built {d = c.gen_statement-in-Classic.new.context} (keeps_then (c.create_label-start.ensures (file_of c.args.t.now)).keeps (c.mark_label-in-Classic.ensures (file_of c.args.t.now)).keeps).list (walked c.gen_statement-in-Classic.ensures (built {d = c.args.context.now} (keeps_then (c.create_label-end.ensures (file_of c.args.t.now)).keeps (c.create_label-next.ensures (file_of c.args.t.now)).keeps).list start)))))) (c.requires.walk.script ∙ sym c.list-update.ensures.script) (omega (arith, c.requires.walk.fits, c.kid-initialize.ensures.kid.fewer, c.list-conditions.ensures.list.fewer, c.list-update.ensures.list.fewer, c.gen_statement-in-Classic.auto.scratch, c.ends.auto.scratch, c.gen_statement-in-Classic-2.auto.scratch)), omega (arith, c.requires.walk.fits, c.kid-initialize.ensures.kid.fewer, c.list-conditions.ensures.list.fewer, c.list-update.ensures.list.fewer, c.gen_statement-in-Classic.auto.scratch, c.ends.auto.scratch, c.gen_statement-in-Classic-2.auto.scratch, c.args.t.now.within.known, c.args.t.now.within.sound.few, c.args.t.now.within.inside)))
 
-pub gen_for_loop-ends-requires : goal.gen_for_loop-ends-requires
-gen_for_loop-ends-requires t c = (omega (arith, c.decreases, c.requires.walk.fits, c.kid-initialize.ensures.kid.fewer, c.list-conditions.ensures.list.fewer, c.list-update.ensures.list.fewer, c.gen_statement-in-Classic.auto.scratch), walk (built {d = c.gen_statement-in-Classic.new.context} (keeps_then (c.create_label-start.ensures (file_of c.args.t.now)).keeps (c.mark_label-in-Classic.ensures (file_of c.args.t.now)).keeps).list (walked c.gen_statement-in-Classic.ensures (built {d = c.args.context.now} (keeps_then (c.create_label-end.ensures (file_of c.args.t.now)).keeps (c.create_label-next.ensures (file_of c.args.t.now)).keeps).list start))) (c.requires.walk.script ∙ sym c.list-conditions.ensures.script) (omega (arith, c.requires.walk.fits, c.kid-initialize.ensures.kid.fewer, c.list-conditions.ensures.list.fewer, c.list-update.ensures.list.fewer, c.gen_statement-in-Classic.auto.scratch)))
-
-pub gen_for_loop-gen_expr-requires : goal.gen_for_loop-gen_expr-requires
-gen_for_loop-gen_expr-requires t c = (omega (arith, c.decreases, c.requires.walk.fits, c.kid-object.ensures.kid.fewer), walk (built {d = c.args.context.now} (keeps_then (c.create_label-end.ensures (file_of c.args.t.now)).keeps (c.create_label-next.ensures (file_of c.args.t.now)).keeps).list start) (c.requires.walk.script ∙ sym c.kid-object.ensures.script) (omega (arith, c.requires.walk.fits, c.kid-object.ensures.kid.fewer)))
-
-pub gen_for_loop-gen_statement-requires : goal.gen_for_loop-gen_statement-requires
-gen_for_loop-gen_statement-requires t c = (omega (arith, c.decreases, c.requires.walk.fits, c.kid-object.ensures.kid.fewer, c.gen_expr.auto.scratch), walk (acted c.gen_target.ensures (built {d = c.gen_expr.new.context} (keeps_then (c.action.ensures (file_of c.args.t.now)).keeps (keeps_then (c.mark_label.ensures (file_of c.args.t.now)).keeps (keeps_then (c.store_register.ensures (file_of c.args.t.now)).keeps (keeps_then c.push.ensures.keeps (keeps_then (c.action-in-Enumerate.ensures (file_of c.args.t.now)).keeps (c.branch-context.ensures (file_of c.args.t.now)).keeps))))).list (walked c.gen_expr.ensures (built {d = c.args.context.now} (keeps_then (c.create_label-end.ensures (file_of c.args.t.now)).keeps (c.create_label-next.ensures (file_of c.args.t.now)).keeps).list start)))) c.requires.walk.script (omega (arith, c.requires.walk.fits, c.kid-object.ensures.kid.fewer, c.gen_expr.auto.scratch)))
-
-pub gen_for_loop-gen_statement-requires-in-Classic : goal.gen_for_loop-gen_statement-requires-in-Classic
-gen_for_loop-gen_statement-requires-in-Classic t c = (omega (arith, c.decreases, c.requires.walk.fits, c.kid-initialize.ensures.kid.fewer, c.list-conditions.ensures.list.fewer, c.list-update.ensures.list.fewer), walk (built {d = c.args.context.now} (keeps_then (c.create_label-end.ensures (file_of c.args.t.now)).keeps (c.create_label-next.ensures (file_of c.args.t.now)).keeps).list start) (c.requires.walk.script ∙ sym c.kid-initialize.ensures.script) (omega (arith, c.requires.walk.fits, c.kid-initialize.ensures.kid.fewer, c.list-conditions.ensures.list.fewer, c.list-update.ensures.list.fewer)))
-
-pub gen_for_loop-gen_statement-requires-in-Classic-2 : goal.gen_for_loop-gen_statement-requires-in-Classic-2
-gen_for_loop-gen_statement-requires-in-Classic-2 t c = (omega (arith, c.decreases, c.requires.walk.fits, c.kid-initialize.ensures.kid.fewer, c.list-conditions.ensures.list.fewer, c.list-update.ensures.list.fewer, c.gen_statement-in-Classic.auto.scratch, c.ends.auto.scratch), walk (walked c.ends.ensures (built {d = c.gen_statement-in-Classic.new.context} (keeps_then (c.create_label-start.ensures (file_of c.args.t.now)).keeps (c.mark_label-in-Classic.ensures (file_of c.args.t.now)).keeps).list (walked c.gen_statement-in-Classic.ensures (built {d = c.args.context.now} (keeps_then (c.create_label-end.ensures (file_of c.args.t.now)).keeps (c.create_label-next.ensures (file_of c.args.t.now)).keeps).list start)))) c.requires.walk.script (omega (arith, c.requires.walk.fits, c.kid-initialize.ensures.kid.fewer, c.list-conditions.ensures.list.fewer, c.list-update.ensures.list.fewer, c.gen_statement-in-Classic.auto.scratch, c.ends.auto.scratch)))
-
 pub gen_for_loop-gen_target-requires-clause-file_len_bound : goal.gen_for_loop-gen_target-requires-clause-file_len_bound
 gen_for_loop-gen_target-requires-clause-file_len_bound t c = rw ((walked c.gen_expr.ensures (built {d = c.args.context.now} (keeps_then (c.create_label-end.ensures (file_of c.args.t.now)).keeps (c.create_label-next.ensures (file_of c.args.t.now)).keeps).list start)).script ∙ c.requires.walk.script) c.args.t.now.within.sound.short
 
@@ -545,29 +446,11 @@ gen_function-end_function-requires-clause-ready t c = rw (c.begin_function-outer
 pub gen_function-end_function-requires-clause-up_bound : goal.gen_function-end_function-requires-clause-up_bound
 gen_function-end_function-requires-clause-up_bound t c = rw c.from.ensures (one_most c.args.up)
 
-pub gen_function-gen_statements-requires : goal.gen_function-gen_statements-requires
-gen_function-gen_statements-requires t c = (omega (arith, c.decreases, c.requires.walk.fits, c.list-body.ensures.list.fewer), walk (built {d = c.args.context.now} c.begin_function-outer.ensures.keeps.list start) (c.requires.walk.script ∙ sym c.list-body.ensures.script) (omega (arith, c.requires.walk.fits, c.list-body.ensures.list.fewer)))
-
-pub gen_function-invariant_of-context : goal.gen_function-invariant_of-context
-gen_function-invariant_of-context t c = record { laid_out = c.args.context.now.laid_out; indexed = index_stays c.begin_function-outer.ensures.keeps.pool c.args.context.now.indexed }
-
 pub gen_function-invariant_of-context-2 : goal.gen_function-invariant_of-context-2
 gen_function-invariant_of-context-2 t c = record { laid_out = c.gen_statements.new.context.laid_out; indexed = index_stays c.end_function.ensures.keeps.pool c.gen_statements.new.context.indexed }
 
 pub gen_function-returns : goal.gen_function-returns
 gen_function-returns t c = λ nf mv. walks (built {d = c.gen_statements.new.context} c.end_function.ensures.keeps.list (walked c.gen_statements.ensures (built {d = c.args.context.now} c.begin_function-outer.ensures.keeps.list start))) (function_done (file_of c.args.t.now) _ c.args.context.now.builder.state _ c.args.context.now.builder.fine (rw (c.begin_function-outer.ensures.state, c.begin_function-outer.ensures.list, c.no_loop-idle.ensures, ← c.list-body.ensures.list.means) at (rw c.list-body.ensures.script at c.gen_statements.ensures.does)) _ (rw (c.begin_function-outer.ensures.outer.0, c.begin_function-outer.ensures.outer.1) at (c.end_function.ensures.ends (file_of c.args.t.now) nf (rw (c.begin_function-outer.ensures.outer.1, c.from.ensures) mv)).ends))
-
-pub gen_if-gen_expr-requires : goal.gen_if-gen_expr-requires
-gen_if-gen_expr-requires t c = (omega (arith, c.decreases, c.requires.fits, c.kid-condition.ensures.kid.fewer, c.kid-yes.ensures.kid.fewer), walk (built {d = c.args.context.now} (c.create_label-end.ensures (file_of c.args.t.now)).keeps.list start) (c.requires.script ∙ sym c.kid-condition.ensures.script) (omega (arith, c.requires.fits, c.kid-condition.ensures.kid.fewer, c.kid-yes.ensures.kid.fewer)))
-
-pub gen_if-gen_statement-requires : goal.gen_if-gen_statement-requires
-gen_if-gen_statement-requires t c = (omega (arith, c.decreases, c.requires.fits, c.kid-condition.ensures.kid.fewer, c.kid-yes.ensures.kid.fewer, c.gen_expr.auto.scratch), walk (built {d = c.gen_expr.new.context} (keeps_then (c.action.ensures (file_of c.args.t.now)).keeps (keeps_then (c.create_label-no.ensures (file_of c.args.t.now)).keeps (c.branch-context.ensures (file_of c.args.t.now)).keeps)).list (walked c.gen_expr.ensures (built {d = c.args.context.now} (c.create_label-end.ensures (file_of c.args.t.now)).keeps.list start))) (c.requires.script ∙ sym c.kid-yes.ensures.script) (omega (arith, c.requires.fits, c.kid-condition.ensures.kid.fewer, c.kid-yes.ensures.kid.fewer, c.gen_expr.auto.scratch)))
-
-pub gen_if-gen_statement-requires-2 : goal.gen_if-gen_statement-requires-2
-gen_if-gen_statement-requires-2 t c = (omega (arith, c.decreases, c.requires.fits, c.kid-condition.ensures.kid.fewer, c.kid-yes.ensures.kid.fewer, c.gen_expr.auto.scratch), walk (built {d = c.gen_expr.new.context} (keeps_then (c.action.ensures (file_of c.args.t.now)).keeps (c.branch-context-2.ensures (file_of c.args.t.now)).keeps).list (walked c.gen_expr.ensures (built {d = c.args.context.now} (c.create_label-end.ensures (file_of c.args.t.now)).keeps.list start))) (c.requires.script ∙ sym c.kid-yes.ensures.script) (omega (arith, c.requires.fits, c.kid-condition.ensures.kid.fewer, c.kid-yes.ensures.kid.fewer, c.gen_expr.auto.scratch)))
-
-pub gen_if-gen_statement-requires-then-is_present : goal.gen_if-gen_statement-requires-then-is_present
-gen_if-gen_statement-requires-then-is_present t c = (omega (arith, c.decreases, c.requires.fits, c.kid-condition.ensures.kid.fewer, c.kid-yes.ensures.kid.fewer, c.gen_expr.auto.scratch, c.gen_statement.auto.scratch), walk (built {d = c.gen_statement.new.context} (keeps_then (c.jump.ensures (file_of c.args.t.now)).keeps (c.mark_label.ensures (file_of c.args.t.now)).keeps).list (walked c.gen_statement.ensures (built {d = c.gen_expr.new.context} (keeps_then (c.action.ensures (file_of c.args.t.now)).keeps (keeps_then (c.create_label-no.ensures (file_of c.args.t.now)).keeps (c.branch-context.ensures (file_of c.args.t.now)).keeps)).list (walked c.gen_expr.ensures (built {d = c.args.context.now} (c.create_label-end.ensures (file_of c.args.t.now)).keeps.list start))))) c.requires.script (omega (arith, c.requires.fits, c.kid-condition.ensures.kid.fewer, c.kid-yes.ensures.kid.fewer, c.gen_expr.auto.scratch, c.gen_statement.auto.scratch)))
 
 pub gen_if-invariant_of-context : goal.gen_if-invariant_of-context
 gen_if-invariant_of-context t c = record { laid_out = c.args.context.now.laid_out; indexed = index_stays (c.create_label-end.ensures (file_of c.args.t.now)).keeps.pool c.args.context.now.indexed }
@@ -680,15 +563,6 @@ gen_statement-returns-then-is_present t c = walks (built {d = c.gen_expr.new.con
 pub gen_statement-returns-then-is_some : goal.gen_statement-returns-then-is_some
 gen_statement-returns-then-is_some t c = walks start (stays (sym c.if-is_some.ensures) c.args.context.now.builder.fine)
 
-pub gen_statements-each-requires : goal.gen_statements-each-requires
-gen_statements-each-requires t c = (omega (arith, c.decreases, c.requires.fits), (walk start c.requires.script (omega (arith, c.requires.fits)), omega (arith, c.requires.fits, c.args.t.now.within.known, c.args.t.now.within.sound.few, c.args.t.now.within.inside)))
-
-pub gen_statements-each-requires-2 : goal.gen_statements-each-requires-2
-gen_statements-each-requires-2 t c = (omega (arith, c.decreases, c.requires.fits), (walk start c.requires.script (omega (arith, c.requires.fits)), omega (arith, c.requires.fits, c.args.t.now.within.known, c.args.t.now.within.sound.few, c.args.t.now.within.inside)))
-
-pub gen_statements-each-requires-3 : goal.gen_statements-each-requires-3
-gen_statements-each-requires-3 t c = (omega (arith, c.decreases, c.requires.fits, c.each-2.auto.scratch), (walk (walked c.each-2.ensures start) c.requires.script (omega (arith, c.requires.fits, c.each-2.auto.scratch)), omega (arith, c.requires.fits, c.each-2.auto.scratch, c.args.t.now.within.known, c.args.t.now.within.sound.few, c.args.t.now.within.inside)))
-
 pub gen_statements-returns : goal.gen_statements-returns
 gen_statements-returns t c = walks (walked c.each-3.ensures (walked c.each-2.ensures start)) (statements_arm c.args.t.now.script.layout c.args.t.now.part (loop_of c.args.lp) c.each-2.ensures.does c.each-3.ensures.does)
 
@@ -709,9 +583,6 @@ gen_switch-each-requires-2 t c = (omega (arith, c.decreases, c.requires.fits, c.
 
 pub gen_switch-each-requires-3 : goal.gen_switch-each-requires-3
 gen_switch-each-requires-3 t c = (omega (arith, c.decreases, c.requires.fits, c.list-elements.ensures.list.fewer, c.kid-target.ensures.kid.fewer, c.gen_expr.auto.scratch, c.each-2.auto.scratch), (walk (built {d = c.each-2.new.context} (c.jump-2.ensures (file_of c.args.t.now)).keeps.list (walked c.each-2.ensures (built {d = c.gen_expr.new.context} (c.store_register.ensures (file_of c.args.t.now)).keeps.list (walked c.gen_expr.ensures (built {d = c.args.context.now} (keeps_then (c.create_label-end.ensures (file_of c.args.t.now)).keeps c.create_labels-first.ensures.keeps).list start))))) (c.requires.script ∙ sym c.list-elements.ensures.script) (omega (arith, c.requires.fits, c.list-elements.ensures.list.fewer, c.kid-target.ensures.kid.fewer, c.gen_expr.auto.scratch, c.each-2.auto.scratch)), omega (arith, c.requires.fits, c.list-elements.ensures.list.fewer, c.kid-target.ensures.kid.fewer, c.gen_expr.auto.scratch, c.each-2.auto.scratch, c.args.t.now.within.known, c.args.t.now.within.sound.few, c.args.t.now.within.inside, c.create_labels-first.ensures.bound)))
-
-pub gen_switch-gen_expr-requires : goal.gen_switch-gen_expr-requires
-gen_switch-gen_expr-requires t c = (omega (arith, c.decreases, c.requires.fits, c.list-elements.ensures.list.fewer, c.kid-target.ensures.kid.fewer), walk (built {d = c.args.context.now} (keeps_then (c.create_label-end.ensures (file_of c.args.t.now)).keeps c.create_labels-first.ensures.keeps).list start) (c.requires.script ∙ sym c.kid-target.ensures.script) (omega (arith, c.requires.fits, c.list-elements.ensures.list.fewer, c.kid-target.ensures.kid.fewer)))
 
 pub gen_switch-invariant_of-context : goal.gen_switch-invariant_of-context
 gen_switch-invariant_of-context t c = record { laid_out = c.args.context.now.laid_out; indexed = index_stays (keeps_then (c.create_label-end.ensures (file_of c.args.t.now)).keeps c.create_labels-first.ensures.keeps).pool c.args.context.now.indexed }
@@ -743,15 +614,6 @@ gen_switch-returns-then-n-eq0 t c = walks (built {d = c.args.context.now} (keeps
 pub gen_switch-returns-then-n-eq0-2 : goal.gen_switch-returns-then-n-eq0-2
 gen_switch-returns-then-n-eq0-2 t c = walks (built {d = c.each.new.context} (c.mark_label.ensures (file_of c.args.t.now)).keeps.list (walked c.each.ensures (built {d = c.args.context.now} (keeps_then (c.create_label-end.ensures (file_of c.args.t.now)).keeps (keeps_then c.create_labels-first.ensures.keeps (c.jump.ensures (file_of c.args.t.now)).keeps)).list start))) (switch_cases_arm c.args.t.now.script.layout c.args.t.now.part c.create_labels-first.result.0 (loop_of c.args.lp) (loop_of c.with_exit-inner.result) _ _ c.list-elements.ensures.list (switching c.list-elements.ensures.list (rw c.list-elements.ensures.script at c.counts-n.ensures) _ _ (omega (arith, c.args.t.now.within.known, c.args.t.now.within.sound.few, c.args.t.now.within.inside, c.create_labels-first.ensures.bound)) c.default_label-default.ensures) c.with_exit-inner.ensures (some_labels (file_of c.args.t.now) c.args.t.now.part c.create_labels-first.result.0 (λ z. c.if-n-eq0.false (sym (labels_counted c.list-elements.ensures.list (rw c.list-elements.ensures.script at c.counts-n.ensures)) ∙ z))) (c.create_label-end.ensures (file_of c.args.t.now)).does (c.create_labels-first.ensures.runs (file_of c.args.t.now) (list_at (file_of c.args.t.now) c.args.t.now.part 0) (labels_counted c.list-elements.ensures.list (rw c.list-elements.ensures.script at c.counts-n.ensures))).does (no_tests_arm c.args.t.now.script.layout c.args.t.now.part _ _ (switching c.list-elements.ensures.list (rw c.list-elements.ensures.script at c.counts-n.ensures) _ _ (omega (arith, c.args.t.now.within.known, c.args.t.now.within.sound.few, c.args.t.now.within.inside, c.create_labels-first.ensures.bound)) c.default_label-default.ensures).testing c.if-n-eq0-2.true (c.create_labels-first.ensures.runs (file_of c.args.t.now) (list_at (file_of c.args.t.now) c.args.t.now.part 0) (labels_counted c.list-elements.ensures.list (rw c.list-elements.ensures.script at c.counts-n.ensures))).does.fine) (c.jump.ensures (file_of c.args.t.now)).does (rw c.list-elements.ensures.script at c.each.ensures.does) (c.mark_label.ensures (file_of c.args.t.now)).does)
 
-pub gen_ternary-gen_expr-requires : goal.gen_ternary-gen_expr-requires
-gen_ternary-gen_expr-requires t c = (omega (arith, c.decreases, c.requires.fits, c.kid-condition.ensures.kid.fewer, c.kid-yes.ensures.kid.fewer), walk (built {d = c.args.context.now} (keeps_then (c.create_label-end.ensures (file_of c.args.t.now)).keeps (c.create_label-label.ensures (file_of c.args.t.now)).keeps).list start) (c.requires.script ∙ sym c.kid-condition.ensures.script) (omega (arith, c.requires.fits, c.kid-condition.ensures.kid.fewer, c.kid-yes.ensures.kid.fewer)))
-
-pub gen_ternary-gen_expr-requires-2 : goal.gen_ternary-gen_expr-requires-2
-gen_ternary-gen_expr-requires-2 t c = (omega (arith, c.decreases, c.requires.fits, c.kid-condition.ensures.kid.fewer, c.kid-yes.ensures.kid.fewer, c.gen_expr.auto.scratch), walk (built {d = c.gen_expr.new.context} (c.branch-context.ensures (file_of c.args.t.now)).keeps.list (walked c.gen_expr.ensures (built {d = c.args.context.now} (keeps_then (c.create_label-end.ensures (file_of c.args.t.now)).keeps (c.create_label-label.ensures (file_of c.args.t.now)).keeps).list start))) c.requires.script (omega (arith, c.requires.fits, c.kid-condition.ensures.kid.fewer, c.kid-yes.ensures.kid.fewer, c.gen_expr.auto.scratch)))
-
-pub gen_ternary-gen_expr-requires-3 : goal.gen_ternary-gen_expr-requires-3
-gen_ternary-gen_expr-requires-3 t c = (omega (arith, c.decreases, c.requires.fits, c.kid-condition.ensures.kid.fewer, c.kid-yes.ensures.kid.fewer, c.gen_expr.auto.scratch, c.gen_expr-2.auto.scratch), walk (built {d = c.gen_expr-2.new.context} (keeps_then (c.jump.ensures (file_of c.args.t.now)).keeps (c.mark_label.ensures (file_of c.args.t.now)).keeps).list (walked c.gen_expr-2.ensures (built {d = c.gen_expr.new.context} (c.branch-context.ensures (file_of c.args.t.now)).keeps.list (walked c.gen_expr.ensures (built {d = c.args.context.now} (keeps_then (c.create_label-end.ensures (file_of c.args.t.now)).keeps (c.create_label-label.ensures (file_of c.args.t.now)).keeps).list start))))) (c.requires.script ∙ sym c.kid-yes.ensures.script) (omega (arith, c.requires.fits, c.kid-condition.ensures.kid.fewer, c.kid-yes.ensures.kid.fewer, c.gen_expr.auto.scratch, c.gen_expr-2.auto.scratch)))
-
 pub gen_ternary-invariant_of-context : goal.gen_ternary-invariant_of-context
 gen_ternary-invariant_of-context t c = record { laid_out = c.args.context.now.laid_out; indexed = index_stays (keeps_then (c.create_label-end.ensures (file_of c.args.t.now)).keeps (c.create_label-label.ensures (file_of c.args.t.now)).keeps).pool c.args.context.now.indexed }
 
@@ -766,27 +628,6 @@ gen_ternary-invariant_of-context-4 t c = record { laid_out = c.gen_expr-3.new.co
 
 pub gen_ternary-returns : goal.gen_ternary-returns
 gen_ternary-returns t c = walks (built {d = c.gen_expr-3.new.context} (keeps_then (c.mark_label-2.ensures (file_of c.args.t.now)).keeps (c.assume_stack_delta.ensures (file_of c.args.t.now)).keeps).list (walked c.gen_expr-3.ensures (built {d = c.gen_expr-2.new.context} (keeps_then (c.jump.ensures (file_of c.args.t.now)).keeps (c.mark_label.ensures (file_of c.args.t.now)).keeps).list (walked c.gen_expr-2.ensures (built {d = c.gen_expr.new.context} (c.branch-context.ensures (file_of c.args.t.now)).keeps.list (walked c.gen_expr.ensures (built {d = c.args.context.now} (keeps_then (c.create_label-end.ensures (file_of c.args.t.now)).keeps (c.create_label-label.ensures (file_of c.args.t.now)).keeps).list start))))))) (ternary_arm c.args.t.now.script.layout c.args.t.now.part c.kid-condition.ensures.kid c.kid-yes.ensures.kid (c.create_label-end.ensures (file_of c.args.t.now)).does (c.create_label-label.ensures (file_of c.args.t.now)).does (rw c.kid-condition.ensures.script at c.gen_expr.ensures.does) (c.branch-context.ensures (file_of c.args.t.now)).does c.gen_expr-2.ensures.does (c.jump.ensures (file_of c.args.t.now)).does (c.mark_label.ensures (file_of c.args.t.now)).does (rw c.kid-yes.ensures.script at c.gen_expr-3.ensures.does) (c.mark_label-2.ensures (file_of c.args.t.now)).does (c.assume_stack_delta.ensures (file_of c.args.t.now)).does)
-
-pub gen_unary_op-adjust-requires : goal.gen_unary_op-adjust-requires
-gen_unary_op-adjust-requires t c = (omega (arith, c.decreases, c.requires.fits, rank_most c.args.discard), walk start c.requires.script (omega (arith, c.requires.fits, rank_most c.args.discard)))
-
-pub gen_unary_op-adjust-requires-in-Decrement : goal.gen_unary_op-adjust-requires-in-Decrement
-gen_unary_op-adjust-requires-in-Decrement t c = (omega (arith, c.decreases, c.requires.fits, rank_most c.args.discard), walk start c.requires.script (omega (arith, c.requires.fits, rank_most c.args.discard)))
-
-pub gen_unary_op-gen_expr-requires : goal.gen_unary_op-gen_expr-requires
-gen_unary_op-gen_expr-requires t c = (omega (arith, c.decreases, c.requires.fits), walk (built {d = c.args.context.now} c.push.ensures.keeps.list start) c.requires.script (omega (arith, c.requires.fits)))
-
-pub gen_unary_op-gen_expr-requires-in-Add : goal.gen_unary_op-gen_expr-requires-in-Add
-gen_unary_op-gen_expr-requires-in-Add t c = (omega (arith, c.decreases), c.requires)
-
-pub gen_unary_op-gen_expr-requires-in-BitNot : goal.gen_unary_op-gen_expr-requires-in-BitNot
-gen_unary_op-gen_expr-requires-in-BitNot t c = (omega (arith, c.decreases), c.requires)
-
-pub gen_unary_op-gen_expr-requires-in-LogicalNot : goal.gen_unary_op-gen_expr-requires-in-LogicalNot
-gen_unary_op-gen_expr-requires-in-LogicalNot t c = (omega (arith, c.decreases), c.requires)
-
-pub gen_unary_op-gen_expr-requires-in-None : goal.gen_unary_op-gen_expr-requires-in-None
-gen_unary_op-gen_expr-requires-in-None t c = (omega (arith, c.decreases, c.requires.fits), walk (built {d = c.args.context.now} c.push-in-None.ensures.keeps.list start) c.requires.script (omega (arith, c.requires.fits)))
 
 pub gen_unary_op-invariant_of-context : goal.gen_unary_op-invariant_of-context
 gen_unary_op-invariant_of-context t c = record { laid_out = c.args.context.now.laid_out; indexed = index_stays (c.negate_integer.ensures (file_of c.args.t.now)).keeps.pool c.args.context.now.indexed }
@@ -839,12 +680,6 @@ gen_unary_op-returns-in-Some-Integer t c = walks (built {d = c.args.context.now}
 pub gen_unary_op-returns-in-Some-String : goal.gen_unary_op-returns-in-Some-String
 gen_unary_op-returns-in-Some-String t c = walks (built {d = c.gen_expr.new.context} (c.action.ensures (file_of c.args.t.now)).keeps.list (walked c.gen_expr.ensures (built {d = c.args.context.now} c.push.ensures.keeps.list start))) (rw (c.in-Sub.is, literal_of (is_node _ _ _ c.args.t.now.within c.node-node.ensures.node), ← literal_is (file_of c.args.t.now) c.node-node.result.root, ← c.literal_of.ensures, c.in-Some-String.is, c.in-Some-String.field-0-is) (minus_arm c.args.t.now.script.layout c.args.t.now.part (c.push.ensures.runs (file_of c.args.t.now) tt).does c.gen_expr.ensures.does (c.action.ensures (file_of c.args.t.now)).does))
 
-pub gen_while_loop-gen_expr-requires : goal.gen_while_loop-gen_expr-requires
-gen_while_loop-gen_expr-requires t c = (omega (arith, c.decreases, c.requires.fits, c.kid-condition.ensures.kid.fewer), walk (built {d = c.args.context.now} (keeps_then (c.create_label-start.ensures (file_of c.args.t.now)).keeps (keeps_then (c.create_label-end.ensures (file_of c.args.t.now)).keeps (c.mark_label.ensures (file_of c.args.t.now)).keeps)).list start) (c.requires.script ∙ sym c.kid-condition.ensures.script) (omega (arith, c.requires.fits, c.kid-condition.ensures.kid.fewer)))
-
-pub gen_while_loop-gen_statement-requires : goal.gen_while_loop-gen_statement-requires
-gen_while_loop-gen_statement-requires t c = (omega (arith, c.decreases, c.requires.fits, c.kid-condition.ensures.kid.fewer, c.gen_expr.auto.scratch), walk (built {d = c.gen_expr.new.context} (keeps_then (c.action.ensures (file_of c.args.t.now)).keeps (c.branch-context.ensures (file_of c.args.t.now)).keeps).list (walked c.gen_expr.ensures (built {d = c.args.context.now} (keeps_then (c.create_label-start.ensures (file_of c.args.t.now)).keeps (keeps_then (c.create_label-end.ensures (file_of c.args.t.now)).keeps (c.mark_label.ensures (file_of c.args.t.now)).keeps)).list start))) c.requires.script (omega (arith, c.requires.fits, c.kid-condition.ensures.kid.fewer, c.gen_expr.auto.scratch)))
-
 pub gen_while_loop-invariant_of-context : goal.gen_while_loop-invariant_of-context
 gen_while_loop-invariant_of-context t c = record { laid_out = c.args.context.now.laid_out; indexed = index_stays (keeps_then (c.create_label-start.ensures (file_of c.args.t.now)).keeps (keeps_then (c.create_label-end.ensures (file_of c.args.t.now)).keeps (c.mark_label.ensures (file_of c.args.t.now)).keeps)).pool c.args.context.now.indexed }
 
@@ -856,12 +691,6 @@ gen_while_loop-invariant_of-context-3 t c = record { laid_out = c.gen_statement.
 
 pub gen_while_loop-returns : goal.gen_while_loop-returns
 gen_while_loop-returns t c = walks (built {d = c.gen_statement.new.context} (keeps_then (c.jump.ensures (file_of c.args.t.now)).keeps (c.mark_label-2.ensures (file_of c.args.t.now)).keeps).list (walked c.gen_statement.ensures (built {d = c.gen_expr.new.context} (keeps_then (c.action.ensures (file_of c.args.t.now)).keeps (c.branch-context.ensures (file_of c.args.t.now)).keeps).list (walked c.gen_expr.ensures (built {d = c.args.context.now} (keeps_then (c.create_label-start.ensures (file_of c.args.t.now)).keeps (keeps_then (c.create_label-end.ensures (file_of c.args.t.now)).keeps (c.mark_label.ensures (file_of c.args.t.now)).keeps)).list start))))) (while_arm c.args.t.now.script.layout c.args.t.now.part c.kid-condition.ensures.kid (loop_of c.loop_to-inner.result) c.loop_to-inner.ensures (c.create_label-start.ensures (file_of c.args.t.now)).does (c.create_label-end.ensures (file_of c.args.t.now)).does (c.mark_label.ensures (file_of c.args.t.now)).does (rw c.kid-condition.ensures.script at c.gen_expr.ensures.does) (c.action.ensures (file_of c.args.t.now)).does (c.branch-context.ensures (file_of c.args.t.now)).does c.gen_statement.ensures.does (c.jump.ensures (file_of c.args.t.now)).does (c.mark_label-2.ensures (file_of c.args.t.now)).does)
-
-pub goto-gen_expr-requires : goal.goto-gen_expr-requires
-goto-gen_expr-requires t c = (omega (arith, c.decreases), c.requires)
-
-pub goto-gen_expr-requires-in-None : goal.goto-gen_expr-requires-in-None
-goto-gen_expr-requires-in-None t c = (omega (arith, c.decreases), c.requires)
 
 pub goto-invariant_of-context : goal.goto-invariant_of-context
 goto-invariant_of-context t c = record { laid_out = c.args.context.now.laid_out; indexed = index_stays (keeps_then c.goto_label.ensures.keeps (c.play_if.ensures (file_of c.args.t.now)).keeps).pool c.args.context.now.indexed }
@@ -887,29 +716,8 @@ goto-returns-in-Some-Integer t c = walks (built {d = c.args.context.now} (keeps_
 pub goto-returns-in-Some-String : goal.goto-returns-in-Some-String
 goto-returns-in-Some-String t c = walks (built {d = c.args.context.now} (keeps_then c.goto_label.ensures.keeps (c.play_if.ensures (file_of c.args.t.now)).keeps).list start) (rw (literal_of (is_node _ _ _ c.args.t.now.within c.node-node.ensures.node), ← literal_is (file_of c.args.t.now) c.node-node.result.root, ← c.literal_of.ensures, c.in-Some-String.is, c.in-Some-String.field-0-is, ← text_is (file_of c.args.t.now) c.in-Some-String.s c.args.t.now.within.sound.short) (goto_label_arm c.args.t.now.script.layout c.args.t.now.part (text_in (file_of c.args.t.now) c.in-Some-String.s) c.args.play (c.goto_label.ensures.runs (file_of c.args.t.now) (literal_named (file_of c.args.t.now) c.node-node.result.number c.node-node.result.root c.in-Some-String.s (is_node _ _ _ c.args.t.now.within c.node-node.ensures.node).named (sym c.literal_of.ensures ∙ (rw c.in-Some-String.field-0-is at c.in-Some-String.is)))).does (c.play_if.ensures (file_of c.args.t.now)).does))
 
-pub one-gen_expr-requires : goal.one-gen_expr-requires
-one-gen_expr-requires t c = (omega (arith, c.decreases), c.requires.walk)
-
-pub one-gen_expr-requires-in-Case : goal.one-gen_expr-requires-in-Case
-one-gen_expr-requires-in-Case t c = (omega (arith, c.decreases, c.requires.walk.fits), walk (built {d = c.args.context.now} (c.push_if.ensures (file_of c.args.t.now)).keeps.list start) c.requires.walk.script (omega (arith, c.requires.walk.fits)))
-
-pub one-gen_expr-requires-in-Discarded : goal.one-gen_expr-requires-in-Discarded
-one-gen_expr-requires-in-Discarded t c = (omega (arith, c.decreases), c.requires.walk)
-
 pub one-gen_expr-requires-in-Field : goal.one-gen_expr-requires-in-Field
 one-gen_expr-requires-in-Field t c = (omega (arith, c.decreases, c.requires.walk.fits), walk (acted (c.push_string.ensures (rw c.requires.walk.script ((c.name_of-key.ensures (file_of c.args.t.now) c.node-node.result.number c.args.t.now.within.sound.short (is_node _ _ _ c.args.t.now.within c.node-node.ensures.node).named).1))) start) c.requires.walk.script (omega (arith, c.requires.walk.fits)))
-
-pub one-gen_statement-requires : goal.one-gen_statement-requires
-one-gen_statement-requires t c = (omega (arith, c.decreases), c.requires.walk)
-
-pub one-gen_statement-requires-then-is_hoisted : goal.one-gen_statement-requires-then-is_hoisted
-one-gen_statement-requires-then-is_hoisted t c = (omega (arith, c.decreases), c.requires.walk)
-
-pub one-gen_statement-requires-then-not-is_hoisted : goal.one-gen_statement-requires-then-not-is_hoisted
-one-gen_statement-requires-then-not-is_hoisted t c = (omega (arith, c.decreases), c.requires.walk)
-
-pub one-gen_statement-requires-then-seen-ne0 : goal.one-gen_statement-requires-then-seen-ne0
-one-gen_statement-requires-then-seen-ne0 t c = (omega (arith, c.decreases), c.requires.walk)
 
 pub one-invariant_of-context : goal.one-invariant_of-context
 one-invariant_of-context t c = record { laid_out = c.gen_expr-in-Discarded.new.context.laid_out; indexed = index_stays (c.truncate_stack.ensures (file_of c.args.t.now)).keeps.pool c.gen_expr-in-Discarded.new.context.indexed }
