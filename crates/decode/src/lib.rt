@@ -226,7 +226,7 @@ fn record_of_kind(kind: Kind, r: Row) -> Record
     }
 }
 
-// A record's words as an enum.
+// A record's words as an enum. It shares with script's `Form::from` the `match` on `try_from` alone: what each makes of a kind has its own function.
 pub fn record_of(r: Row) -> Record
     ensures { result ≡ record_of (words_of r) }
 {

@@ -208,7 +208,7 @@ fn form_of_kind(kind: Kind, r: Row) -> Form
     }
 }
 
-// The form of a record.
+// The form of a record. It shares with `decode::record_of` the `match` on `try_from` alone: what each makes of a kind has its own function.
 impl From<Row> for Form {
     ghost from_gives = { λ r f. form_as f ≡ form_of (words_of r) };
 
@@ -235,7 +235,7 @@ const CASE: u32 = Kind::Case as u32;
 const DEFAULT: u32 = Kind::Default as u32;
 
 impl Class {
-    // A kind of the class.
+    // A kind of the class. The word is asked, since a class is a range of kinds, and a word that is no kind is in none.
     pub(crate) fn has(self, kind: u32) -> bool
         ensures { result ≡ is_class self kind }
     {

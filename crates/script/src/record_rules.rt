@@ -83,7 +83,7 @@ pub fn is_list(script: &ScriptFile, t: Tree, class: Class) -> bool
     t.row.kind == Kind::List as u32 && all_of(script, t.children, class)
 }
 
-// A child is of the sort that its parent's form asks for.
+// A child is of the sort that its parent's form asks for. Each arm is that sort's test, which asks another thing of the row or of the children.
 fn is_sort(script: &ScriptFile, t: Tree, sort: Sort) -> bool
     ensures { result ≡ is_sort sort (words_of t.row) (trees_in (rows_of script.now.bytes.now script.now.layout) t.children) }
 {

@@ -46,8 +46,8 @@ impl ScriptFile<'_> {
     {
         let at = p.end.saturating_sub(1);
         let row = self.row_at(at);
-        // A size is cut to what the part holds, as `tree::Trees` need not: there the file is accepted. Most trees have one to three records. A branch for each lets the processor go on before the size is read: without them a walk over records
-        // without children takes half as long again.
+        // A size is cut to what the part holds, as `tree::Trees` need not: there the file is accepted. Most trees have one to three records: a branch for each
+        // hands `sized` a constant, so that the processor can go on to the tree before it while the size is still read.
         if row.size == 1 {
             if 1 <= p.n {
                 return sized(row, p, at, 1);
