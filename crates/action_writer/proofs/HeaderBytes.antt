@@ -3,7 +3,7 @@ use Prim.Native.Nat.{ℕ, zero, suc, ◌+◌, ◌-◌, ◌*◌, ◌/◌, ◌%◌
 use mathlib.Core.Path.{◌≡◌, refl, ap}
 use mathlib.Core.List.{List, [], ◌∷◌, ◌++◌, map}
 use mathlib.Core.Bool.{Bool, true, false, cond, ◌&&◌}
-use mathlib.Core.Option.{none, some, get_or}
+use mathlib.Core.Option.{get_or}
 use native.Mathlib.Omega.{arith}
 use lib.Dec.{T, leb, ltb, eqb, ltb→lt}
 use lib.ListN.{length, length-map}
@@ -15,7 +15,7 @@ use Rattle.script_records.specs.Layout.{layout_of, string_at, row_in}
 use Rattle.decode.specs.Decode as decode
 use Rattle.decode.specs.Decode.{record_of, name_of, marks_of, function_of}
 use Rattle.decode.specs.Numbers.{bit}
-use Rattle.script.specs.Resolve.{resolved}
+use Rattle.script.specs.Resolve.{resolved, name_over}
 use Rattle.lowering.specs.Statement.{header}
 use Rattle.action_format.specs.Lists.{all}
 use Rattle.action_format.specs.Bytes.{Bytes, word, zero_ended, join, param_bytes, code_of_header, data_of_header, header_bytes, bytes_of_record}
@@ -99,7 +99,7 @@ module _ (F : List ℕ) (l : Layout) (k size : ℕ) (i : IsFunction F l k) where
   c = (row_in (rows_in F) k).c
 
   abbrev name_text : Str
-  name_text = get_or (cond (eqb a 0) none (some (string_at F (layout_of F) (a - 1)))) []
+  name_text = get_or (name_over (string_at F (layout_of F)) (name_of a)) []
 
   header_at : header_in F k ≡ header name_text g (c % 512) (params_at F k) (leb g 1)
   unfolding header_in record_in children_in rec_in trees resolved record_of

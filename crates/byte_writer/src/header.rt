@@ -12,7 +12,7 @@ ghost use Rattle.byte_writer.specs.Writer.{HasRoom, Writes};
 ghost use Rattle.byte_writer.specs.Header.{param_data, params_data, marks_word, marks_data, is_wide, header_code, header_data, function_data, function_bytes, IsFunction};
 
 use crate::Writer;
-use decode::{Function, function_of};
+use decode::Function;
 use hir::Record;
 use script_records::layout::ScriptFile;
 use script_records::part::Part;
@@ -132,7 +132,7 @@ impl Writer<'_> {
     {
         let script = self.script;
         let row = script.row_at(k);
-        let f = function_of(row);
+        let f = Function::from(row);
         let part = Part {
             end: k,
             n: row.size as usize - 1,

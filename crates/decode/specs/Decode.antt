@@ -90,6 +90,10 @@ plain_of k =
     (cond (ltb k 78) (kind.Expr (get_or expr_kinds (k - 32) expr.Call))
     (when 96 k kind.Absent (when 100 k kind.Case (when 101 k kind.Default kind.Other))))))
 
+-- a function's name, whose word is its index plus 1, or 0 for none
+abbrev pub name_of : ℕ → Option ℕ
+name_of a = cond (eqb a 0) None (Some (a - 1))
+
 -- Declare, ForIn; Constant, BinaryOperator, UnaryOperator, Function, GotoFrame, StartDrag, GetProperty, SetProperty; list, object field, parameter
 unfoldable pub record_of : Words → Record
 record_of w =
@@ -98,7 +102,7 @@ record_of w =
     (when 32 w.kind (kind.Expr (expr.Constant (constant_of w)))
     (when 40 w.kind (kind.Expr (expr.Binary (get_or binary_operators w.a binary.Add)))
     (when 41 w.kind (kind.Expr (expr.Unary (unary_of w.a w.b)))
-    (when 49 w.kind (kind.Expr (expr.Function w.a (w.b % 256) (w.c % 512)))
+    (when 49 w.kind (kind.Expr (expr.Function (name_of w.a) (w.b % 256) (w.c % 512)))
     (when 52 w.kind (kind.Expr (expr.GotoFrame (is_one w.a)))
     (when 69 w.kind (kind.Expr (expr.StartDrag (is_one w.a)))
     (when 75 w.kind (kind.Expr (expr.GetProperty (signed w.a)))
@@ -106,9 +110,6 @@ record_of w =
     (when 97 w.kind (kind.List w.a)
     (when 98 w.kind (kind.ObjectField w.a)
     (when 99 w.kind (kind.Parameter w.a (w.b % 512)) (plain_of w.kind)))))))))))))
-
-abbrev pub name_of : ℕ → Option ℕ
-name_of a = cond (eqb a 0) None (Some (a - 1))
 
 -- bits 0 to 8
 abbrev pub marks_of : ℕ → List Bool

@@ -134,6 +134,11 @@ condition_words (loop.Enumerate (target.Variable n d)) = words 5 0 (bit d) n
 condition_words (loop.Enumerate (target.Register r)) = words 5 0 2 r
 condition_words loop.Classic = words 5 1 0 0
 
+-- a name's index plus 1, or 0 for none
+abbrev pub name_number : Option ℕ → ℕ
+name_number None = 0
+name_number (Some i) = i + 1
+
 abbrev pub expr_words : ExprKind → Words
 expr_words (expr.Constant c) = constant_words c
 expr_words (expr.Simple s) = words (simple_kind s) 0 0 0
@@ -148,7 +153,7 @@ expr_words expr.InitArray = words 44 0 0 0
 expr_words expr.Field = words 45 0 0 0
 expr_words expr.Delete = words 47 0 0 0
 expr_words expr.Void = words 48 0 0 0
-expr_words (expr.Function n r m) = words 49 n r m
+expr_words (expr.Function n r m) = words 49 (name_number n) r m
 expr_words (expr.GotoFrame p) = words 52 (bit p) 0 0
 expr_words (expr.StartDrag l) = words 69 (bit l) 0 0
 expr_words (expr.GetProperty p) = words 75 (unsigned p) 0 0
@@ -183,11 +188,6 @@ words_for kind.Other = words 16 0 0 0
 unfoldable pub marks_number : List Bool → ℕ
 marks_number [] = 0
 marks_number (m ∷ ms) = bit m + 2 * marks_number ms
-
--- a name's index plus 1, or 0 for none
-abbrev pub name_number : Option ℕ → ℕ
-name_number None = 0
-name_number (Some i) = i + 1
 
 abbrev pub function_words : Function → Words
 function_words f = words 49 (name_number f.name) f.register_count (marks_number f.marks)

@@ -177,7 +177,7 @@ fn record_of_kind(kind: Kind, r: Row) -> Record
         Kind::Delete => Record::Expr(ExprKind::Delete),
         Kind::Void => Record::Expr(ExprKind::Void),
         Kind::Function => Record::Expr(ExprKind::Function {
-            name: r.a,
+            name: r.a.checked_sub(1),
             registers: (r.b % 256) as u8,
             marks: (r.c % 512) as u16,
         }),
@@ -226,7 +226,7 @@ fn record_of_kind(kind: Kind, r: Row) -> Record
     }
 }
 
-// A record's words as an enum.
+// A record's words as an enum. It shares with script's `Form::from` the `match` on `try_from` alone: what each makes of a kind has its own function.
 pub fn record_of(r: Row) -> Record
     ensures { result ≡ record_of (words_of r) }
 {
@@ -246,17 +246,19 @@ pub struct Function {
     pub marks: [bool; 9],
 }
 
-// The record of a function, whose words hold its name, its register count and its marks.
-pub fn function_of(r: Row) -> Function
-    ensures { result ≡ function_of (words_of r) }
-{
-    let mut marks = [false; 9];
-    for (i, mark) in marks.iter_mut().enumerate() {
-        *mark = r.c >> i & 1 != 0;
-    }
-    Function {
-        name: r.a.checked_sub(1),
-        register_count: (r.b % 256) as u8,
-        marks,
+// The words of a function's record hold its name, its register count and its marks.
+impl From<Row> for Function {
+    ghost from_gives = { λ r f. f ≡ function_of (words_of r) };
+
+    fn from(r: Row) -> Self {
+        let mut marks = [false; 9];
+        for (i, mark) in marks.iter_mut().enumerate() {
+            *mark = r.c >> i & 1 != 0;
+        }
+        Function {
+            name: r.a.checked_sub(1),
+            register_count: (r.b % 256) as u8,
+            marks,
+        }
     }
 }

@@ -2,7 +2,7 @@
 use Prim.Native.Nat.{ℕ, zero, suc, ◌+◌, ◌-◌, ◌%◌, ◌^◌, ◌<◌, ◌≤◌}
 use mathlib.Core.Path.{◌≡◌, refl, subst}
 use mathlib.Core.List.{List, [], ◌∷◌}
-use mathlib.Core.Option.{some, none}
+use Rattle.std.specs.Prelude.{Some, None}
 use mathlib.Core.Bool.{Bool, true, false, cond, not, ◌&&◌}
 use native.Mathlib.Omega.{arith}
 use lib.IntN.{pos, negsuc}
@@ -25,12 +25,12 @@ use Rattle.hir.specs.declared.Record.TheVariants as kind
 use Rattle.utf8.specs.Utf8.{utf8}
 use Rattle.script_records.specs.declared.layout.Layout.{Layout}
 use Rattle.script_records.specs.Layout.{Words, supported, trailer_at, record_distance, end_distance, record_count, string_count, layout_of, string_at, strings_from, strings_of, rows_of}
-use Rattle.decode.specs.Decode.{signed, is_one, constant_of, condition_of, statement_kinds, expr_kinds, plain_of, when, record_of}
+use Rattle.decode.specs.Decode.{signed, is_one, constant_of, condition_of, statement_kinds, expr_kinds, plain_of, when, record_of, name_of}
 use Rattle.script.specs.declared.forms.Scalar.TheVariants.{Below as below, String as string}
 use Rattle.script.specs.Forms.{Form, form, for_in_form, constant_forms, unknown, form_of, has_form, fits}
 use Rattle.script.specs.Rules.{rules_hold, all_utf8, all_supported, max_bytes, max_depth, tree_in, check_of}
 use Rattle.decode.specs.Numbers.{unsigned}
-use Rattle.script.specs.Resolve.{constant_over, expr_over, statement_over, resolved, script_of}
+use Rattle.script.specs.Resolve.{constant_over, name_over, expr_over, statement_over, resolved, script_of}
 use Rattle.script.specs.Write.{Bytes, all_fit, are_words, WellFormed}
 use Rattle.script.proofs.WrittenRows.{first, second, forest_count}
 use Rattle.script.proofs.WrittenBytes.{word_small, strings_length}
@@ -151,14 +151,14 @@ module _ (m : ℕ) (text : ℕ → Str) (texts : (i : ℕ) → i < m → Utf8 (t
     unfolding fits resolved constant_of
     constant_in_lem e h = constant_at w.a (subst (λ (x : Form). has_form m x w kids ≡ true) (constant_form e) h)
 
-    name_in : (n : ℕ) → n < m + 1 → NameOk Utf8 (cond (eqb n 0) none (some (text (n - 1))))
+    name_in : (n : ℕ) → n < m + 1 → NameOk Utf8 (name_over text (name_of n))
     name_in n l = go (eqb n 0) refl
       where
         positive : (n : ℕ) → n < m + 1 → (n ≡ 0 → ⊥) → n - 1 < m
         positive zero l z = absurd (z refl)
         positive (suc n) l z = omega arith
 
-        go : (b : Bool) → eqb n 0 ≡ b → NameOk Utf8 (cond b none (some (text (n - 1))))
+        go : (b : Bool) → eqb n 0 ≡ b → NameOk Utf8 (name_over text (cond b None (Some (n - 1))))
         go true e = tt
         go false e = let z : n ≡ 0 → ⊥ = eqb-false n 0 e in texts (n - 1) (positive n l z)
 

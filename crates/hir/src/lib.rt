@@ -108,9 +108,8 @@ pub enum ConstantKind {
     Register(u8),
 }
 
-// A function's name is the record's word, its index plus 1, or 0 for none: who matches on a record asks no more than whether it has a name, `operators::Shape` by
-// `name != 0`, and `leaves::leaves_value`, which takes an empty one for none. Its marks are the word's bits 0 to 8, which no match reads: as flags nine would be
-// made for each function that is decoded. Who writes a function takes `decode::function_of`, which says the name as an Option and the marks as flags.
+// A function's marks are the word's bits 0 to 8, which no match reads: as flags nine would be made for each function that is decoded. Who writes a function
+// makes a `decode::Function` of its record, which has them as flags.
 #[derive(Clone, Copy)]
 pub enum ExprKind {
     Constant(ConstantKind),
@@ -127,7 +126,7 @@ pub enum ExprKind {
     Delete,
     Void,
     Function {
-        name: u32,
+        name: Option<u32>,
         registers: u8,
         marks: u16,
     },

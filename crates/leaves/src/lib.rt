@@ -3,6 +3,7 @@
 // Steps that emit, but generate no part of the tree.
 ghost use Rattle.std.specs.Prelude.{◌≡◌, List, [], IfSome, option_map, unwrap_or, false, cond, not, ◌&&◌, ◌||◌, ℕ, ◌+◌, ◌-◌, ◌*◌, ◌%◌, ◌<◌, ◌≤◌, T, ltb, eqb, length};
 ghost use Rattle.std.specs.Int.{from_bool};
+ghost use Rattle.std.specs.Option.{option_map_or};
 ghost use Rattle.pcode.specs.Pcode.{Value, moved, Integer, Float};
 ghost use Rattle.pcode.specs.declared.Op.TheVariants.{Play};
 ghost use Rattle.script_records.specs.Layout.{layout_of, string_at};
@@ -262,13 +263,13 @@ pub fn is_case(e: Element) -> bool
     matches!(e, Element::Case)
 }
 
-// A function leaves a value if it has no name, or an empty one. In a script file the word of its name is 0 for none, and else one more than the string's number.
-pub fn leaves_value(script: &ScriptFile, name: u32) -> bool
+// A function leaves a value if it has no name, or an empty one.
+pub fn leaves_value(script: &ScriptFile, name: Option<u32>) -> bool
     requires { script.now.layout ≡ layout_of script.now.bytes.now }
     ensures { let F = script.now.bytes.now in
-        (z : ℕ) → moved (name_delta (cond (eqb name 0) [] (string_at F (layout_of F) (name - 1)))) z ≡ z + from_bool result }
+        (z : ℕ) → moved (name_delta (option_map_or (string_at F (layout_of F)) name [])) z ≡ z + from_bool result }
 {
-    match name.checked_sub(1) {
+    match name {
         Some(number) => script.string(number as usize).is_empty(),
         None => true,
     }

@@ -1,6 +1,6 @@
 // What the references of a list slice refer to: strings and functions of a script file, or of the action bytes that were read.
 use crate::text::Text;
-use decode::{function_of, record_of};
+use decode::{Function, record_of};
 use script_records::layout::{Row, ScriptFile};
 use script_records::part::Part;
 use slice_words::{Param, code};
@@ -71,7 +71,7 @@ pub struct Actions<'a>(pub &'a [u8]);
 struct Record<'a>(&'a [u8]);
 
 fn registers_of(row: Row) -> Option<Registers> {
-    let function = function_of(row);
+    let function = Function::from(row);
     if function.register_count <= 1 {
         return None;
     }
@@ -118,7 +118,7 @@ impl Source for ScriptFile<'_> {
 
     fn header(&self, reference: u32) -> Header<'_> {
         let row = self.row_at(reference as usize);
-        let name = function_of(row).name;
+        let name = Function::from(row).name;
         Header {
             name: name.map_or(&[], |i| Source::string(self, i)),
             registers: registers_of(row),

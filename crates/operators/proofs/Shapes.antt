@@ -3,7 +3,8 @@ use Prim.Native.Nat.{ℕ, zero, suc}
 use mathlib.Core.Path.{◌≡◌, refl, ap, ◌∙◌}
 use mathlib.Core.List.{List}
 use mathlib.Core.Bool.{true}
-use lib.Dec.{T, eqb-suc-zero}
+use lib.Dec.{T}
+use Rattle.std.specs.Prelude.{Some, None}
 use Rattle.hir.specs.declared.ConstantKind.{ConstantKind}
 use Rattle.hir.specs.declared.ConstantKind.TheVariants as constant
 use Rattle.hir.specs.declared.ExprKind.{ExprKind}
@@ -20,8 +21,8 @@ use Rattle.operators.specs.declared.shape.Shape.TheVariants.{Constant, NamedFunc
 use Rattle.operators.specs.Shapes.{constant_in, shape_in, literal_in, kind_shape, root_shape, constant_literal, shape_literal}
 
 kind_is : (F : List ℕ) (k : ExprKind) → shape_in F (kind_shape k) ≡ meaning.shape (expr_over (string_at F (layout_of F)) k)
-kind_is F (expr.Function zero r m) = refl
-kind_is F (expr.Function (suc n) r m) = rw eqb-suc-zero
+kind_is F (expr.Function None r m) = refl
+kind_is F (expr.Function (Some n) r m) = refl
 kind_is F _ = refl
 
 -- a record's shape, and the literal of a shape
@@ -44,7 +45,8 @@ literal_is F r = literal_at F (root_shape r) ∙ ap meaning.literal (shape_is F 
 -- what a shape's strings name, its record's strings name
 kind_named : (F : List ℕ) (i : ℕ) (k : ExprKind) → T (expr_named F i k) → (c : ConstantKind) → kind_shape k ≡ Constant c → T (constant_named F c)
 kind_named F i (expr.Constant c) h d e = let x : c ≡ d = cc in rw (← x) h
-kind_named F i (expr.Function (suc n) r m) h d e = let x : NamedFunction ≡ Constant d = rw eqb-suc-zero at e in cc
+kind_named F i (expr.Function None r m) h d e = cc
+kind_named F i (expr.Function (Some n) r m) h d e = cc
 kind_named F i _ h d e = cc
 
 pub shape_named : (F : List ℕ) (i : ℕ) (r : Record) → T (record_named F i r) → (c : ConstantKind) → root_shape r ≡ Constant c → T (constant_named F c)

@@ -1,5 +1,5 @@
 -- What the code's enums of a record's shape stand for.
-use Rattle.std.specs.Prelude.{ℕ, ◌+◌, ◌*◌, List, Option, Some, None, cond, eqb}
+use Rattle.std.specs.Prelude.{ℕ, ◌+◌, ◌*◌, List, Option, Some, None}
 use Rattle.hir.specs.Hir as tree
 use Rattle.hir.specs.declared.ConstantKind.{ConstantKind}
 use Rattle.hir.specs.declared.ConstantKind.TheVariants as constant
@@ -31,11 +31,10 @@ literal_in F (Some (Integer n)) = meaning.integer (unsigned n)
 literal_in F (Some (Float low high)) = meaning.float (low + 0x1_0000_0000 * high)
 literal_in F None = meaning.no_literal
 
--- a function with a name, by the index plus 1 that its record holds
 abbrev pub kind_shape : ExprKind → Shape
 kind_shape (expr.Constant c) = Constant c
 kind_shape expr.Field = Field
-kind_shape (expr.Function n r m) = cond (eqb n 0) Other NamedFunction
+kind_shape (expr.Function (Some n) r m) = NamedFunction
 kind_shape _ = Other
 
 abbrev pub root_shape : Record → Shape

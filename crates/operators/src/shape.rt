@@ -23,7 +23,7 @@ impl From<ExprKind> for Shape {
         match kind {
             ExprKind::Constant(c) => Shape::Constant(c),
             ExprKind::Field => Shape::Field,
-            ExprKind::Function { name, .. } if name != 0 => Shape::NamedFunction,
+            ExprKind::Function { name: Some(_), .. } => Shape::NamedFunction,
             _ => Shape::Other,
         }
     }

@@ -146,7 +146,7 @@ impl Row {
     }
 }
 
-// The callers of CallFunction, CallMethod, InitArray, InitObject, NewMethod and StartDrag say their own delta. No From: its one law would join the two clauses,
+// A table: each arm is a row, which `Row::new` writes shortly. The callers of CallFunction, CallMethod, InitArray, InitObject, NewMethod and StartDrag say their own delta. No From: its one law would join the two clauses,
 // which proofs cite one by one.
 pub fn row_of(o: Op) -> Row
     ensures code { result.code ≡ (row_of o).code }

@@ -1,8 +1,7 @@
 -- Strings and their sizes.
 use Prim.Native.Nat.{ℕ, zero, suc, ◌+◌, ◌-◌, ◌*◌, ◌%◌, ◌≤◌, ◌<◌}
 use mathlib.Core.Path.{◌≡◌, refl, sym, ap, ap₂, ◌∙◌}
-use mathlib.Core.Option
-use mathlib.Core.Option.{none, some}
+use mathlib.Core.Option as optional
 use mathlib.Core.List.{List, [], ◌∷◌, ◌++◌, map, append_assoc, append-nil}
 use mathlib.Core.Bool.{Bool, true, false, not, cond, ◌&&◌}
 use native.Mathlib.Omega.{arith}
@@ -10,7 +9,7 @@ use lib.Dec.{T, ltb, leb, eqb}
 use lib.ListN.{length, take, drop, length-take, length-append}
 use lib.Seq.{take-take}
 use borrow.Author.Tests.{ltb-true, leb-true, eqb-true, eq-eqb, ne_eqb}
-use Rattle.std.specs.Prelude.{Some, None, unwrap_or}
+use Rattle.std.specs.Prelude.{Option, Some, None, unwrap_or}
 use Rattle.std.specs.List.{list_any, push}
 use Rattle.hir.specs.Hir.{Str}
 use Rattle.hir.specs.declared.Record.{Record}
@@ -18,7 +17,7 @@ use Rattle.hir.specs.declared.Record.TheVariants as kind
 use Rattle.pcode.specs.Pcode.{Param, Header}
 use Rattle.script_records.specs.declared.layout.ScriptFile.{ScriptFile}
 use Rattle.script_records.specs.declared.part.Part.{Part}
-use Rattle.script.specs.Resolve.{resolved}
+use Rattle.script.specs.Resolve.{resolved, name_over}
 use Rattle.lowering.specs.Meaning.{param}
 use Rattle.hir.specs.declared.ExprKind.TheVariants as expr
 use Rattle.script_records.specs.declared.layout.Row.{Row}
@@ -190,10 +189,6 @@ module _ {F : List ℕ} {l : Layout} {p left : Part} {t : Text} (v : ParamsInv F
 
 -- a function's header
 
-name_bytes : (t : Bool) (s : Str) → Option.get_or (cond t none (some s)) [] ≡ cond t [] s
-name_bytes true s = refl
-name_bytes false s = refl
-
 abbrev row_at : List ℕ → ℕ → Row
 row_at F r = row_in (rows_in F) r
 
@@ -207,20 +202,17 @@ function_parts F r h = (
   eqb-true _ 49 (is_true _ (and_second (ltb r (layout_of F).count) (eqb (row_at F r).kind 49) h)),
 )
 
-function_record : (w : Words) → w.kind ≡ 49 → record_of w ≡ kind.Expr (expr.Function w.a (w.b % 256) (w.c % 512))
+function_record : (w : Words) → w.kind ≡ 49 → record_of w ≡ kind.Expr (expr.Function (name_of w.a) (w.b % 256) (w.c % 512))
 unfolding record_of
 function_record w e = rw e
 
--- the reference of a function's name, whose word is the name's index plus 1, or 0
+-- the reference of a function's name, by its word
 abbrev function_name : ℕ → ℕ
 function_name a = unwrap_or (name_of a) no_string
 
-name_text : (F : List ℕ) (a : ℕ) → length F ≤ 1048576 → text_in F (function_name a) ≡ cond (eqb a 0) [] (string_at F (layout_of F) (a - 1))
-name_text F a h = go (eqb a 0)
-  where
-    go : (t : Bool) → text_in F (unwrap_or (cond t None (Some (a - 1))) no_string) ≡ cond t [] (string_at F (layout_of F) (a - 1))
-    go true = no_name F
-    go false = text_is F (a - 1) h
+name_text : (F : List ℕ) (n : Option ℕ) → length F ≤ 1048576 → text_in F (unwrap_or n no_string) ≡ optional.get_or (name_over (string_at F (layout_of F)) n) []
+name_text F None h = no_name F
+name_text F (Some i) h = text_is F i h
 
 header_is : (F : List ℕ) (r : ℕ) → T (names_function F r) → length F ≤ 1048576 →
     header_in F r ≡ header (text_in F (function_name (row_at F r).a)) ((row_at F r).b % 256) ((row_at F r).c % 512) (params_of (list 1 (trees F (kids_at F r)))) (leb ((row_at F r).b % 256) 1)
@@ -228,8 +220,7 @@ unfolding header_in record_in children_in rec_in trees resolved
 header_is F r h s =
     rw (
       function_record (words_of (row_at F r)) (function_parts F r h).1,
-      name_text F (row_at F r).a s,
-      name_bytes (eqb (row_at F r).a 0) (string_at F (layout_of F) ((row_at F r).a - 1)),
+      name_text F (name_of (row_at F r).a) s,
     )
 
 pub join_size : (ss : List Str) → length (join zero_ended ss) ≡ (texts_of ss).bytes

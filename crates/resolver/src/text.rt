@@ -7,7 +7,7 @@ ghost use Rattle.tree.specs.Handle.{trees_of};
 ghost use Rattle.resolver.specs.Texts.{Few, with_text, texts_of, param_names, function_data, string_data, pool_data, constant_data, fixed_data, kind_of, Operands, data_in, entry_data, Known};
 
 use crate::lists::Lists;
-use decode::function_of;
+use decode::Function;
 use script_records::part::Part;
 use slice_words::{Entry, NO_STRING, POOL_AT, Param, code, entry_at, text};
 use tree::Trees;
@@ -132,7 +132,7 @@ impl Lists<'_> {
         let script = self.script;
         let end = k as usize;
         let row = script.row_at(end);
-        let f = function_of(row);
+        let f = Function::from(row);
         let n = (row.size as usize).saturating_sub(1);
         let part = Part { end, n };
         let kids = Trees { script, part };

@@ -93,7 +93,7 @@ module _ (m a b c : ℕ) where
 
   function_kept : Kept m 49 a b c
   unfolding form_of record_of words_for
-  function_kept h la lb lc = rw (mod-eq_of_lt {n = b} {m = 256} h.1.0, mod-eq_of_lt {n = c} {m = 512} h.1.1)
+  function_kept h la lb lc = rw (name_of_lem a, mod-eq_of_lt {n = b} {m = 256} h.1.0, mod-eq_of_lt {n = c} {m = 512} h.1.1)
 
   goto_kept : Kept m 52 a b c
   unfolding form_of record_of words_for

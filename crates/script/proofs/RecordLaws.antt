@@ -3,8 +3,9 @@ use Prim.Native.Nat.{ℕ, zero, suc, ◌+◌, ◌-◌, ◌≤◌, ◌<◌, min, 
 use mathlib.Core.Path.{◌≡◌, refl, sym, ap, ◌∙◌}
 use mathlib.Core.List.{List, [], ◌∷◌, ◌++◌, reverse}
 use Rattle.std.proofs.lemmas.List.{reverse-append}
-use mathlib.Core.Bool.{Bool, true, false, ◌&&◌}
-use Rattle.std.specs.Prelude.{◌⊎◌, Some, None}
+use mathlib.Core.Bool.{Bool, true, false, true≢false, not, ◌&&◌}
+use Rattle.std.specs.Prelude.{◌⊎◌, Option, Some, None}
+use Rattle.std.specs.Option.{is_some}
 use Rattle.std.proofs.Common.{inl, inr}
 use Rattle.std.proofs.lemmas.Bool.{false_from_ne_true}
 use Rattle.std.proofs.lemmas.Option.{cond_some}
@@ -13,7 +14,7 @@ use denote.Ref.{Bor}
 use lib.Dec.{eqb, ltb, leb, eqb-suc-zero}
 use native.Mathlib.Nat.{zero-add}
 use native.Mathlib.Omega.{arith}
-use borrow.Author.Tests.{le-leb, lt-leb}
+use borrow.Author.Tests.{eq-eqb, ne_eqb, le-leb, lt-leb}
 use Rattle.std.proofs.lemmas.Bool.Decides.{nat_tests}
 use Rattle.hir.specs.Tree.{Forest}
 use Rattle.script_records.specs.declared.layout.Row.{Row}
@@ -26,7 +27,8 @@ use Rattle.script.specs.declared.forms.Form.TheVariants as code
 use Rattle.script.specs.declared.forms.Form as code_form
 use Rattle.script.specs.FormCode.{form_as}
 use Rattle.script.specs.Rules.{parted_in, parted, record_holds}
-use Rattle.script.specs.Siblings.{siblings_of}
+use Rattle.script.specs.declared.record_rules.Siblings.{Siblings}
+use Rattle.script.specs.Siblings.{siblings_of, GivesLast}
 use Rattle.script_records.proofs.Trees.{forest_none, forest_more, trees_none, tree_more, tree_less, span_le, span_pos}
 
 -- a part without subtrees, and one whose last subtree is t
@@ -129,9 +131,20 @@ match_empty rs e (suc n) = rw (forest_more rs e (suc n) (omega arith), eqb-suc-z
 abbrev pub matching : List Row → List Sort → Part → Bool
 matching rs ss p = matches (reverse ss) (trees_in rs p)
 
-pub match_done : (rs : List Row) (ss : List Sort) (p : Part) → length ss ≡ 0 → eqb p.n 0 ≡ matching rs ss p
+match_done : (rs : List Row) (ss : List Sort) (p : Part) → length ss ≡ 0 → eqb p.n 0 ≡ matching rs ss p
 match_done rs [] p h = match_empty rs p.end p.n
 match_done rs (s ∷ ss) p h = absurd (omega arith)
+
+-- the walk ends where no subtree is left
+module _ (s t : Siblings) where
+  walk_ended : (o : Option Tree) (b : Bool) → is_some o ≡ not b → GivesLast s o t → b ≡ eqb s.part.n 0
+  walk_ended None true e g = sym (eq-eqb s.part.n 0 g.0)
+  walk_ended None false e g = absurd (true≢false (sym e))
+  walk_ended (Some x) true e g = absurd (true≢false e)
+  walk_ended (Some x) false e g = sym (ne_eqb s.part.n 0 (λ z. omega (arith, g.some, z)))
+
+  pub match_ended : (rs : List Row) (ss : List Sort) (o : Option Tree) {b : Bool} → length ss ≡ 0 → is_some o ≡ not b → GivesLast s o t → b ≡ matching rs ss s.part
+  match_ended rs ss o {b} h e g = walk_ended o b e g ∙ match_done rs ss s.part h
 
 -- the library's `reverse-append`, where the last element is one
 pub turned : {A : Type 0} {xs : List A} (others : List A) (x : A) → xs ≡ others ++ x ∷ [] → reverse xs ≡ x ∷ reverse others

@@ -2,12 +2,14 @@
 use Prim.Native.Nat.{ℕ, zero, suc, ◌+◌, ◌-◌, ◌≤◌, ◌<◌, max}
 use mathlib.Core.Path.{◌≡◌, refl, sym, ap, ◌∙◌}
 use mathlib.Core.List.{List, [], ◌∷◌, ◌++◌, reverse}
-use mathlib.Core.Bool.{Bool, true, false, and-false}
+use mathlib.Core.Bool.{Bool, true, false, ◌&&◌, and-true, and-false}
+use Rattle.std.proofs.Math.Bool.{and_assoc}
+use Rattle.std.specs.List.{list_all, range_with_len}
 use lib.Dec.{ltb}
 use Rattle.std.proofs.lemmas.Bool.Decides.{nat_tests}
 use lib.ListN.{length, length-append}
 use Rattle.std.proofs.lemmas.List.{reverse-append, length-reverse}
-use native.Mathlib.Nat.{add-suc}
+use native.Mathlib.Nat.{add-zero}
 use native.Mathlib.Numerals.{add-one}
 use native.Mathlib.Omega.{arith}
 use native.Mathlib.Nat.{sub-zero}
@@ -24,34 +26,18 @@ use Rattle.utf8.specs.Utf8.{utf8}
 use Rattle.script_records.proofs.Trees.{forest_none, forest_more, span_le, span_pos}
 use Rattle.script.proofs.RecordLaws.{turned}
 
--- a test of every number below n
+-- a test of every number below n, as `all` over a range makes it
 module _ (t : ℕ → Bool) where
-  -- of n numbers, those below i pass
-  pub record Upto (n i : ℕ) : Type 0 where
-    pub most : i ≤ n
-    pub all : all_below t i ≡ true
-
-  -- where each loop begins: the answer of its init goal is this lemma itself
-  pub upto_zero : (n : ℕ) → Upto n 0
+  below_from : (i n : ℕ) → all_below t (i + n) ≡ (all_below t i && list_all t (range_with_len i n))
   unfolding all_below
-  upto_zero n = record { most = omega arith; all = refl }
+  below_from i zero = rw (add-zero, and-true)
+  below_from i (suc n) =
+      let e : i + suc n ≡ suc i + n = omega arith in
+      rw add-one (ap (all_below t) e ∙ below_from (suc i) n ∙ and_assoc (all_below t i) (t i) (list_all t (range_with_len (suc i) n)))
 
-  pub upto_next : (n i : ℕ) {b : Bool} → Upto n i → i < n → b ≡ t i → b ≡ true → Upto n (i + 1)
+  pub below_range : (n : ℕ) → list_all t (range_with_len 0 n) ≡ all_below t n
   unfolding all_below
-  upto_next n i u h q k = record { most = omega arith; all = rw (add-one, u.all, ← q, k) }
-
-  pub upto_all : (n i : ℕ) → Upto n i → n ≤ i → all_below t n ≡ true
-  upto_all n i u h = let e : i ≡ n = omega (arith, u.most) in rw e at u.all
-
-  below_far : (i d : ℕ) → t i ≡ false → all_below t (i + suc d) ≡ false
-  unfolding all_below
-  below_far i zero k = rw (add-one, k, and-false)
-  below_far i (suc d) k = rw (add-suc, below_far i d k)
-
-  pub upto_not : (n i : ℕ) {b : Bool} → i < n → b ≡ t i → b ≡ false → all_below t n ≡ false
-  upto_not n i h q k =
-      let e : i + suc (n - i - 1) ≡ n = omega arith in
-      rw (← e) (below_far i (n - i - 1) (sym q ∙ k))
+  below_range n = let e : 0 + n ≡ n = omega arith in sym (rw e at (below_from 0 n))
 
 whole_span : (rs : List Row) (n : ℕ) → (row_in rs (n - 1)).size ≡ n → 0 < n → span_at rs n n ≡ n
 unfolding span_at
@@ -77,25 +63,14 @@ module _ (rs : List Row) (n : ℕ) where
 
 -- the strings from i on
 module _ (F : List ℕ) (l : Layout) where
-  pub strings_start : all_utf8 (strings_of F l) ≡ all_utf8 (strings_from F l 0 (l.strings - 0))
+  strings_range : (i n : ℕ) → list_all (λ j. utf8 (string_at F l j)) (range_with_len i n) ≡ all_utf8 (strings_from F l i n)
+  unfolding all_utf8 strings_from
+  strings_range i zero = refl
+  strings_range i (suc n) = rw (add-one, strings_range (suc i) n)
+
+  pub strings_all : list_all (λ j. utf8 (string_at F l j)) (range_with_len 0 l.strings) ≡ all_utf8 (strings_of F l)
   unfolding strings_of
-  strings_start = let e : l.strings - 0 ≡ l.strings = omega arith in rw e
-
-  pub strings_next : (i n : ℕ) {b : Bool} → i < n → b ≡ utf8 (string_at F l i) → b ≡ true → all_utf8 (strings_from F l i (n - i)) ≡ all_utf8 (strings_from F l (i + 1) (n - (i + 1)))
-  unfolding all_utf8 strings_from
-  strings_next i n h q k =
-      let e : n - i ≡ suc (n - (i + 1)) = omega arith in
-      rw (e, add-one, ← q, k)
-
-  pub strings_not : (i n : ℕ) {b : Bool} → i < n → b ≡ utf8 (string_at F l i) → b ≡ false → all_utf8 (strings_from F l i (n - i)) ≡ false
-  unfolding all_utf8 strings_from
-  strings_not i n h q k =
-      let e : n - i ≡ suc (n - (i + 1)) = omega arith in
-      rw (e, ← q, k)
-
-  pub strings_done : (i n : ℕ) → n ≤ i → all_utf8 (strings_from F l i (n - i)) ≡ true
-  unfolding all_utf8 strings_from
-  strings_done i n h = let e : n - i ≡ 0 = omega arith in rw e
+  strings_all = strings_range 0 l.strings
 
 -- The depth of what is left of the records, from the last to the first: each open ancestor, the innermost first, has the records
 -- from its start on still before it.

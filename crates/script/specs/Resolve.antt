@@ -1,5 +1,6 @@
 -- The tree with its strings resolved: what lowering is defined over.
-use Rattle.std.specs.Prelude.{ℕ, ◌+◌, ◌-◌, ◌*◌, ◌^◌, List, cond, eqb}
+use Rattle.std.specs.Prelude.{ℕ, ◌+◌, ◌*◌, ◌^◌, List, Option, Some, None}
+use Rattle.std.proofs.Math.Option as optional
 use Rattle.std.proofs.Math.Option.{none, some}
 use Rattle.hir.specs.Hir as tree
 use Rattle.hir.specs.Hir.{Str, Rec}
@@ -39,6 +40,10 @@ module _ (text : ℕ → Str) where
   condition_over (loop.Enumerate t) = tree.Enumerate (target_over t)
   condition_over loop.Classic = tree.Classic
 
+  abbrev pub name_over : Option ℕ → optional.Option Str
+  name_over None = none
+  name_over (Some i) = some (text i)
+
   abbrev pub expr_over : ExprKind → tree.ExprKind
   expr_over (expr.Constant c) = tree.Constant (constant_over c)
   expr_over (expr.Simple k) = tree.Simple k
@@ -53,7 +58,7 @@ module _ (text : ℕ → Str) where
   expr_over expr.Field = tree.Field
   expr_over expr.Delete = tree.Delete
   expr_over expr.Void = tree.Void
-  expr_over (expr.Function n r m) = tree.Function (cond (eqb n 0) none (some (text (n - 1)))) r m
+  expr_over (expr.Function n r m) = tree.Function (name_over n) r m
   expr_over (expr.GotoFrame p) = tree.GotoFrame p
   expr_over (expr.StartDrag l) = tree.StartDrag l
   expr_over (expr.GetProperty p) = tree.GetProperty (unsigned p)

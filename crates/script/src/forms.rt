@@ -208,13 +208,15 @@ fn form_of_kind(kind: Kind, r: Row) -> Form
     }
 }
 
-// The form of a record.
-pub(crate) fn form_of(r: Row) -> Form
-    ensures { form_as result ≡ form_of (words_of r) }
-{
-    match Kind::try_from(r.kind) {
-        Ok(kind) => form_of_kind(kind, r),
-        Err(_) => Form::Unknown,
+// The form of a record. It shares with `decode::record_of` the `match` on `try_from` alone: what each makes of a kind has its own function.
+impl From<Row> for Form {
+    ghost from_gives = { λ r f. form_as f ≡ form_of (words_of r) };
+
+    fn from(r: Row) -> Self {
+        match Kind::try_from(r.kind) {
+            Ok(kind) => form_of_kind(kind, r),
+            Err(_) => Form::Unknown,
+        }
     }
 }
 
@@ -233,7 +235,7 @@ const CASE: u32 = Kind::Case as u32;
 const DEFAULT: u32 = Kind::Default as u32;
 
 impl Class {
-    // A kind of the class.
+    // A kind of the class. The word is asked, since a class is a range of kinds, and a word that is no kind is in none.
     pub(crate) fn has(self, kind: u32) -> bool
         ensures { result ≡ is_class self kind }
     {

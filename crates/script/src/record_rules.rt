@@ -6,7 +6,7 @@ ghost use Rattle.script_records.specs.Parts.{trees_in};
 ghost use Rattle.script.specs.Rules.{record_holds};
 ghost use Rattle.script.specs.Siblings.{siblings_of};
 
-use crate::forms::{Class, Form, Scalar, Sort, form_of};
+use crate::forms::{Class, Form, Scalar, Sort};
 use script_records::kind::Kind;
 use script_records::layout::{Row, ScriptFile};
 use script_records::part::{Part, Tree};
@@ -83,7 +83,7 @@ pub fn is_list(script: &ScriptFile, t: Tree, class: Class) -> bool
     t.row.kind == Kind::List as u32 && all_of(script, t.children, class)
 }
 
-// A child is of the sort that its parent's form asks for.
+// A child is of the sort that its parent's form asks for. Each arm is that sort's test, which asks another thing of the row or of the children.
 fn is_sort(script: &ScriptFile, t: Tree, sort: Sort) -> bool
     ensures { result ≡ is_sort sort (words_of t.row) (trees_in (rows_of script.now.bytes.now script.now.layout) t.children) }
 {
@@ -95,25 +95,20 @@ fn is_sort(script: &ScriptFile, t: Tree, sort: Sort) -> bool
     }
 }
 
-// As many children as sorts, each of its sort. Two rows are walked, and both have to end at once, which `zip` does not tell. What is left of the part counts its
-// records: 0 is the end, and no lack of a count.
+// As many children as sorts, each of its sort. Both rows have to end at once, which `zip` does not tell.
 fn children_match(script: &ScriptFile, p: Part, sorts: &[Sort]) -> bool
     ensures { result ≡ matches (reverse sorts.now) (trees_in (rows_of script.now.bytes.now script.now.layout) p) }
 {
-    let mut part = p;
-    let mut left = sorts;
-    while let Some((sort, others)) = left.split_last() {
-        if part.n == 0 {
+    let mut trees = Siblings::new(script, p);
+    for sort in sorts.iter().rev() {
+        let Some(t) = trees.next() else {
             return false;
-        }
-        let t = script.last_tree(part);
+        };
         if !is_sort(script, t, *sort) {
             return false;
         }
-        part = t.before;
-        left = others;
     }
-    part.n == 0
+    trees.next().is_none()
 }
 
 // The words a, b, c of a record fit the scalars, in a file of so many strings.
@@ -137,7 +132,7 @@ fn form_fits(script: &ScriptFile, r: Row, p: Part, count: usize) -> bool
     requires { count ≡ trees (trees_in (rows_of script.now.bytes.now script.now.layout) p) }
     ensures { result ≡ fits script.now.layout.strings (words_of r) (trees_in (rows_of script.now.bytes.now script.now.layout) p) }
 {
-    match form_of(r) {
+    match Form::from(r) {
         Form::Words { a, b, c, children } => {
             scalars_fit(r, a, b, c, script.layout.strings) && children_match(script, p, children)
         }

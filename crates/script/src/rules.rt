@@ -1,5 +1,4 @@
-// The rules of the whole file, one function for each. Most go over records or strings in a `for` of three lines; as one function over a closure each would still
-// be a range and a test.
+// The rules of the whole file, one function for each. Two join the test of every number below one with another test, and share that `&&` alone.
 ghost use Rattle.std.specs.Prelude.{◌≡◌, ltb};
 ghost use Rattle.hir.specs.Tree.{depth};
 ghost use Rattle.script_records.specs.Layout.{rows_of, strings_of};
@@ -17,12 +16,8 @@ pub fn ends_hold(script: &ScriptFile) -> bool
     ensures { result ≡ ends_hold script.now.bytes.now script.now.layout }
 {
     let n = script.layout.strings as usize;
-    for i in 0..n {
-        if script.end_at(i) < script.start_at(i) {
-            return false;
-        }
-    }
-    script.start_at(n) == script.layout.ends
+    (0..n).all(|i| script.start_at(i) <= script.end_at(i))
+        && script.start_at(n) == script.layout.ends
 }
 
 // The last record is a list of statements and counts all records.
@@ -40,35 +35,21 @@ fn root_holds(script: &ScriptFile) -> bool
 pub fn records_hold(script: &ScriptFile) -> bool
     ensures { result ≡ records_hold script.now.bytes.now script.now.layout }
 {
-    for i in 0..script.layout.count as usize {
-        if !record_holds(script, i) {
-            return false;
-        }
-    }
-    root_holds(script)
+    let n = script.layout.count as usize;
+    (0..n).all(|i| record_holds(script, i)) && root_holds(script)
 }
 
 // Every string of the table is UTF-8 by itself.
 pub fn strings_hold(script: &ScriptFile) -> bool
     ensures { result ≡ all_utf8 (strings_of script.now.bytes.now script.now.layout) }
 {
-    for i in 0..script.layout.strings as usize {
-        if !utf8::is_utf8(script.string(i)) {
-            return false;
-        }
-    }
-    true
+    (0..script.layout.strings as usize).all(|i| utf8::is_utf8(script.string(i)))
 }
 
 pub fn kinds_supported(script: &ScriptFile) -> bool
     ensures { result ≡ all_supported (rows_of script.now.bytes.now script.now.layout) script.now.layout.count }
 {
-    for i in 0..script.layout.count as usize {
-        if !is_supported(script.row_at(i).kind) {
-            return false;
-        }
-    }
-    true
+    (0..script.layout.count as usize).all(|i| is_supported(script.row_at(i).kind))
 }
 
 // The tree is deeper than 128. The walk goes from the last record to the first and keeps where the subtree of each open ancestor starts,

@@ -23,13 +23,15 @@ pub struct Tree {
 
 // The last subtree, if it has so many records.
 fn sized(row: Row, p: Part, at: usize, s: usize) -> Tree
-    requires le_s { 1 ≤ s }
     requires s_le_n { s ≤ p.n }
     ensures { result ≡ record { row = row; children = record { end = at; n = s - 1 }; before = record { end = p.end - s; n = p.n - s } } }
 {
     Tree {
         row,
-        children: Part { end: at, n: s - 1 },
+        children: Part {
+            end: at,
+            n: s.saturating_sub(1),
+        },
         before: Part {
             end: p.end.saturating_sub(s),
             n: p.n - s,
@@ -44,8 +46,8 @@ impl ScriptFile<'_> {
     {
         let at = p.end.saturating_sub(1);
         let row = self.row_at(at);
-        // A size is cut to what the part holds, as `tree::Trees` need not: there the file is accepted. Most trees have one to three records. A branch for each lets the processor go on before the size is read: without them a walk over records
-        // without children takes half as long again.
+        // A size is cut to what the part holds, as `tree::Trees` need not: there the file is accepted. Most trees have one to three records: a branch for each
+        // hands `sized` a constant, so that the processor can go on to the tree before it while the size is still read.
         if row.size == 1 {
             if 1 <= p.n {
                 return sized(row, p, at, 1);
@@ -62,16 +64,6 @@ impl ScriptFile<'_> {
             }
         }
         let s = (row.size as usize).max(1).min(p.n);
-        Tree {
-            row,
-            children: Part {
-                end: at,
-                n: s.saturating_sub(1),
-            },
-            before: Part {
-                end: p.end.saturating_sub(s),
-                n: p.n - s,
-            },
-        }
+        sized(row, p, at, s)
     }
 }

@@ -4,6 +4,9 @@ use mathlib.Core.Path.{◌≡◌, refl, sym, ap, ◌∙◌}
 use mathlib.Core.List.{List, []}
 use mathlib.Core.Bool.{Bool, true, false, cond, not, ◌&&◌, ◌||◌}
 use mathlib.Core.Logic.{◌⊎◌, inl, inr}
+use mathlib.Core.Option.{get_or, none, some}
+use Rattle.std.specs.Prelude.{Option}
+use Rattle.std.specs.Option.{option_map_or}
 use native.Mathlib.Omega.{arith}
 use lib.Dec.{T, leb, ltb, eqb}
 use borrow.Author.Tests.{lt-ltb}
@@ -221,13 +224,13 @@ delta_at : (name : Str) (g m : ℕ) (ps : List Param) (t : Bool) → define_delt
 delta_at name g m ps true = refl
 delta_at name g m ps false = refl
 
-module _ {F : List ℕ} {l : Layout} {p : Part} {t : Node Part} (i : IsNode F l p t) {n g m : ℕ} (e : t.root ≡ kind.Expr (expr-kind.Function n g m)) where
+module _ {F : List ℕ} {l : Layout} {p : Part} {t : Node Part} (i : IsNode F l p t) {n : Option ℕ} {g m : ℕ} (e : t.root ≡ kind.Expr (expr-kind.Function n g m)) where
   pub function_at : (d : Bool) → (kid_at F p 0).gen_expr d ≡ define_function (header_in F t.number) (gen_statements no_loop (list_at F t.children 0))
   function_at d =
-      expr_at i d e ∙ rw (name_bytes (eqb n 0) (string_at F (layout_of F) (n - 1)), list_law 1 (trees F t.children), params_meanings (list 1 (trees F t.children)), ← i.function_header n g m e)
+      expr_at i d e ∙ rw (name_bytes (string_at F (layout_of F)) n, list_law 1 (trees F t.children), params_meanings (list 1 (trees F t.children)), ← i.function_header n g m e)
 
-  pub function_size : (up : ℕ) → ((z : ℕ) → moved (name_delta (cond (eqb n 0) [] (string_at F (layout_of F) (n - 1)))) z ≡ z + up) → (z : ℕ) → moved (define_delta (header_in F t.number)) z ≡ z + up
-  function_size up h z = rw (i.function_header n g m e, delta_at (cond (eqb n 0) [] (string_at F (layout_of F) (n - 1))) g m (params_of (list 1 (trees F t.children))) (leb g 1)) (h z)
+  pub function_size : (up : ℕ) → ((z : ℕ) → moved (name_delta (option_map_or (string_at F (layout_of F)) n [])) z ≡ z + up) → (z : ℕ) → moved (define_delta (header_in F t.number)) z ≡ z + up
+  function_size up h z = rw (i.function_header n g m e, delta_at (option_map_or (string_at F (layout_of F)) n []) g m (params_of (list 1 (trees F t.children))) (leb g 1)) (h z)
 
 -- a literal's string is a string of the file
 

@@ -2,8 +2,10 @@
 use Prim.Native.Nat.{ℕ, ◌+◌, ◌-◌, ◌≤◌, ◌<◌, min}
 use mathlib.Core.Path.{◌≡◌, refl, sym, ◌∙◌}
 use mathlib.Core.List.{List, []}
-use mathlib.Core.Bool.{Bool, true, false, cond, ◌&&◌}
-use mathlib.Core.Option.{none, some, get_or}
+use mathlib.Core.Bool.{Bool, true, false, ◌&&◌}
+use mathlib.Core.Option.{get_or}
+use Rattle.std.specs.Prelude.{Option, Some, None}
+use Rattle.std.specs.Option.{option_map_or}
 use lib.Dec.{T, leb, eqb}
 use native.Mathlib.Omega.{arith}
 use borrow.Author.Tests.{false-eqb, eqb-true, eqb-false, eq-eqb, ne_eqb, leb-true}
@@ -20,7 +22,7 @@ use Rattle.script_records.specs.Parts.{last_tree}
 use Rattle.decode.specs.Decode.{record_of}
 use Rattle.script_records.proofs.Trees.{span_le, span_pos, tree_more}
 use Rattle.script_records.proofs.Trees as records
-use Rattle.script.specs.Resolve.{resolved}
+use Rattle.script.specs.Resolve.{resolved, name_over}
 use Rattle.script.specs.Rules.{parted}
 use Rattle.script.proofs.RecordLaws.{parted_law}
 use Rattle.script.proofs.WrittenRows.{first, second}
@@ -58,9 +60,9 @@ module _ (F : List ℕ) (p : Part) where
   trees_last h = rw (tree_more (rows_in F) p {t = last} refl h)
 
 -- a name's bytes, none where there is no name
-pub name_bytes : (t : Bool) (s : Str) → get_or (cond t none (some s)) [] ≡ cond t [] s
-name_bytes true s = refl
-name_bytes false s = refl
+pub name_bytes : (text : ℕ → Str) (n : Option ℕ) → get_or (name_over text n) [] ≡ option_map_or text n []
+name_bytes text None = refl
+name_bytes text (Some i) = refl
 
 live_one : (r : Record) → live r ≤ 1
 live_one (kind.Statement k) = omega arith
@@ -132,10 +134,10 @@ module _ (F : List ℕ) (l : Layout) (p : Part) (w : Within F l p) (some_left : 
         sound = w.sound;
       }
 
-  header_is : (n g m : ℕ) → made.root ≡ kind.Expr (expr.Function n g m) →
-      header_in F made.number ≡ header (cond (eqb n 0) [] (string_at F (layout_of F) (n - 1))) g m (params_of (list 1 (trees F made.children))) (leb g 1)
+  header_is : (n : Option ℕ) (g m : ℕ) → made.root ≡ kind.Expr (expr.Function n g m) →
+      header_in F made.number ≡ header (option_map_or (string_at F (layout_of F)) n []) g m (params_of (list 1 (trees F made.children))) (leb g 1)
   unfolding last_tree header_in record_in children_in rec_in trees resolved
-  header_is n g m e = rw (e, span_size, name_bytes (eqb n 0) (string_at F (layout_of F) (n - 1)))
+  header_is n g m e = rw (e, span_size, name_bytes (string_at F (layout_of F)) n)
 
   apart_last : min 1 p.n + made.children.n + made.before.n ≤ p.n
   unfolding last_tree

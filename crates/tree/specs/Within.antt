@@ -1,5 +1,6 @@
 -- What the walk through an accepted file can rely on: at each part, and at each node.
-use Rattle.std.specs.Prelude.{ℕ, ◌+◌, ◌-◌, ◌*◌, ◌≤◌, ◌<◌, min, ◌≡◌, List, [], Bool, true, cond, T, leb, eqb, length}
+use Rattle.std.specs.Prelude.{ℕ, ◌+◌, ◌-◌, ◌*◌, ◌≤◌, ◌<◌, min, ◌≡◌, List, [], Bool, true, T, leb, Option, length}
+use Rattle.std.specs.Option.{option_map_or}
 use Rattle.hir.specs.Hir.{Rec}
 use Rattle.hir.specs.Tree.{Forest, more}
 use Rattle.hir.specs.declared.ConstantKind.{ConstantKind}
@@ -132,8 +133,8 @@ pub record IsNode (F : List ℕ) (l : Layout) (p : Part) (r : Node Part) : Type 
   pub end : r.before.end ≡ p.end - span_at (rows_in F) p.end p.n
   pub n : r.before.n ≡ p.n - span_at (rows_in F) p.end p.n
   pub named : T (record_named F r.number r.root)
-  pub function_header : (n g m : ℕ) → r.root ≡ kind.Expr (expr.Function n g m) →
-      header_in F r.number ≡ header (cond (eqb n 0) [] (string_at F (layout_of F) (n - 1))) g m (params_of (list 1 (trees F r.children))) (leb g 1)
+  pub function_header : (n : Option ℕ) (g m : ℕ) → r.root ≡ kind.Expr (expr.Function n g m) →
+      header_in F r.number ≡ header (option_map_or (string_at F (layout_of F)) n []) g m (params_of (list 1 (trees F r.children))) (leb g 1)
 
 -- what the trees of a part generate; the one n places before the last; the children of that one
 abbrev pub meanings_at : List ℕ → Part → Forest Meaning

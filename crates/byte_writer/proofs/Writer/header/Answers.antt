@@ -18,8 +18,8 @@ pub header_data-requires : goal.header_data-requires
 unfolding function_bytes
 header_data-requires c =
     let s = c.args.self.now.script in
-    let e : header_data s.bytes.now s.layout c.function_of-f.result (params_of (trees_of c.list.result)) c.args.size ≡ function_data s.bytes.now s.layout c.args.k c.args.size =
-    data_is s.bytes.now s.layout c.args.k c.args.size c.requires.function c.row_at-row.ensures c.list.ensures.list c.function_of-f.ensures c.list.result.script (ap (λ (x : ScriptFile). x.bytes.now) c.list.ensures.script) in
+    let e : header_data s.bytes.now s.layout c.from-f.result (params_of (trees_of c.list.result)) c.args.size ≡ function_data s.bytes.now s.layout c.args.k c.args.size =
+    data_is s.bytes.now s.layout c.args.k c.args.size c.requires.function c.row_at-row.ensures c.list.ensures.list c.from-f.ensures c.list.result.script (ap (λ (x : ScriptFile). x.bytes.now) c.list.ensures.script) in
     rw c.begin-begun.ensures.room_left (record {
       script = c.list.ensures.script;
       short = rw e c.requires.short;
@@ -30,9 +30,9 @@ pub frame-requires : goal.frame-requires
 unfolding function_bytes
 frame-requires c =
     let s = c.args.self.now.script in
-    let e : header_data s.bytes.now s.layout c.function_of-f.result (params_of (trees_of c.list.result)) c.args.size ≡ function_data s.bytes.now s.layout c.args.k c.args.size =
-    data_is s.bytes.now s.layout c.args.k c.args.size c.requires.function c.row_at-row.ensures c.list.ensures.list c.function_of-f.ensures c.list.result.script (ap (λ (x : ScriptFile). x.bytes.now) c.list.ensures.script) in
-    let d : ScriptFile → Bytes = λ x. header_data x.bytes.now x.layout c.function_of-f.result (params_of (trees_of c.list.result)) c.args.size in
+    let e : header_data s.bytes.now s.layout c.from-f.result (params_of (trees_of c.list.result)) c.args.size ≡ function_data s.bytes.now s.layout c.args.k c.args.size =
+    data_is s.bytes.now s.layout c.args.k c.args.size c.requires.function c.row_at-row.ensures c.list.ensures.list c.from-f.ensures c.list.result.script (ap (λ (x : ScriptFile). x.bytes.now) c.list.ensures.script) in
+    let d : ScriptFile → Bytes = λ x. header_data x.bytes.now x.layout c.from-f.result (params_of (trees_of c.list.result)) c.args.size in
     let f = frame_fits c.args.self.now c.begin-begun.ensures.room_left d c.header_data.ensures (header_code (is_wide (function_in s.bytes.now c.args.k))) (rw e c.requires.room) (rw e c.requires.short) in
     rw c.begin-begun.ensures.begun (record { begun_bound = f.0; in_bounds = f.1.0; data_bound = f.1.1 })
 
@@ -40,9 +40,9 @@ pub returns : goal.returns
 unfolding function_bytes
 returns c =
     let s = c.args.self.now.script in
-    let e : header_data s.bytes.now s.layout c.function_of-f.result (params_of (trees_of c.list.result)) c.args.size ≡ function_data s.bytes.now s.layout c.args.k c.args.size =
-    data_is s.bytes.now s.layout c.args.k c.args.size c.requires.function c.row_at-row.ensures c.list.ensures.list c.function_of-f.ensures c.list.result.script (ap (λ (x : ScriptFile). x.bytes.now) c.list.ensures.script) in
-    let q : c.function_of-f.result ≡ function_in s.bytes.now c.args.k =
-    function_is s.bytes.now s.layout c.args.k c.args.size c.requires.function c.row_at-row.ensures c.list.ensures.list c.function_of-f.ensures in
-    let d : ScriptFile → Bytes = λ x. header_data x.bytes.now x.layout c.function_of-f.result (params_of (trees_of c.list.result)) c.args.size in
-    rw (← e, ← q) (framed_done c.args.self.now c.begin-begun.ensures.room_left d c.header_data.ensures (header_code (is_wide c.function_of-f.result)) (rw (c.begin-begun.ensures.begun, c.header_code.ensures) at c.frame.ensures))
+    let e : header_data s.bytes.now s.layout c.from-f.result (params_of (trees_of c.list.result)) c.args.size ≡ function_data s.bytes.now s.layout c.args.k c.args.size =
+    data_is s.bytes.now s.layout c.args.k c.args.size c.requires.function c.row_at-row.ensures c.list.ensures.list c.from-f.ensures c.list.result.script (ap (λ (x : ScriptFile). x.bytes.now) c.list.ensures.script) in
+    let q : c.from-f.result ≡ function_in s.bytes.now c.args.k =
+    function_is s.bytes.now s.layout c.args.k c.args.size c.requires.function c.row_at-row.ensures c.list.ensures.list c.from-f.ensures in
+    let d : ScriptFile → Bytes = λ x. header_data x.bytes.now x.layout c.from-f.result (params_of (trees_of c.list.result)) c.args.size in
+    rw (← e, ← q) (framed_done c.args.self.now c.begin-begun.ensures.room_left d c.header_data.ensures (header_code (is_wide c.from-f.result)) (rw (c.begin-begun.ensures.begun, c.header_code.ensures) at c.frame.ensures))

@@ -1,15 +1,24 @@
--- `records_hold` meets its contract. The loop's invariant: every record before this one keeps the rules.
+-- The numbers that `all` goes over are those of the records.
+use Rattle.std.proofs.Common.{rules, tests}
+use mathlib.Core.Path.{refl, ◌∙◌}
 use native.Mathlib.Omega.{arith}
+use Rattle.std.proofs.lemmas.Iterator.{YieldsList-from_range}
+use Rattle.std.proofs.lemmas.Iterator.Search.{all_from_yields_List}
 use Rattle.script_records.specs.Layout.{rows_of}
 use Rattle.script.specs.Rules.{record_holds}
-use Rattle.script.proofs.RuleLaws.{upto_zero, upto_next, upto_not}
+use Rattle.script.proofs.RuleLaws.{below_range}
 use Rattle.script.proofs.rules.records_hold.Goals as goal
 
-pub loop-i-init : goal.loop-i-init
-loop-i-init c = upto_zero _ _
+pub returns-then-all : goal.returns-then-all
+returns-then-all c =
+    let n = c.args.script.now.layout.count in
+    let t = record_holds c.args.script.now.layout.strings (rows_of c.args.script.now.bytes.now c.args.script.now.layout) in
+    let e = all_from_yields_List t _ _ c.all.result c.all.ensures.ran (YieldsList-from_range 0 n n refl (omega arith)) (λ x b q k. search (rules, tests)) ∙ below_range t n in
+    rw (← e, c.if-all.true, c.root_holds.ensures) refl
 
-pub returns-then-not-record_holds : goal.returns-then-not-record_holds
-returns-then-not-record_holds c = rw (upto_not (record_holds c.args.script.now.layout.strings (rows_of c.args.script.now.bytes.now c.args.script.now.layout)) c.args.script.now.layout.count c.loop-i.i (omega arith) c.record_holds.ensures c.if-not-record_holds.true)
-
-pub loop-i-preserved : goal.loop-i-preserved
-loop-i-preserved c = upto_next (record_holds c.args.script.now.layout.strings (rows_of c.args.script.now.bytes.now c.args.script.now.layout)) c.args.script.now.layout.count c.loop-i.i c.loop-i.invariant (omega arith) c.record_holds.ensures c.if-not-record_holds.false
+pub returns-else-all : goal.returns-else-all
+returns-else-all c =
+    let n = c.args.script.now.layout.count in
+    let t = record_holds c.args.script.now.layout.strings (rows_of c.args.script.now.bytes.now c.args.script.now.layout) in
+    let e = all_from_yields_List t _ _ c.all.result c.all.ensures.ran (YieldsList-from_range 0 n n refl (omega arith)) (λ x b q k. search (rules, tests)) ∙ below_range t n in
+    rw (← e, c.if-all.false) refl

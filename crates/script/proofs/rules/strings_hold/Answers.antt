@@ -1,18 +1,18 @@
--- `strings_hold` meets its contract. The loop's invariant: what is left decides as the whole table does.
-use mathlib.Core.Path.{ap, sym, ◌∙◌}
+-- The numbers that `all` goes over are those of the strings.
+use Rattle.std.proofs.Common.{rules, tests, ℕ}
+use mathlib.Core.Path.{refl, ◌∙◌}
 use native.Mathlib.Omega.{arith}
+use Rattle.std.proofs.lemmas.Iterator.{YieldsList-from_range}
+use Rattle.std.proofs.lemmas.Iterator.Search.{all_from_yields_List}
+use Rattle.script_records.specs.Layout.{string_at}
 use Rattle.utf8.specs.Utf8.{utf8}
-use Rattle.script.proofs.RuleLaws.{strings_start, strings_next, strings_not, strings_done}
+use Rattle.script.proofs.RuleLaws.{strings_all}
 use Rattle.script.proofs.rules.strings_hold.Goals as goal
 
-pub loop-i-init : goal.loop-i-init
-loop-i-init c = strings_start _ _
-
-pub returns-then-not-is_utf8 : goal.returns-then-not-is_utf8
-returns-then-not-is_utf8 c = sym (c.loop-i.invariant ∙ strings_not _ _ c.loop-i.i _ (omega arith) (c.is_utf8.ensures ∙ ap utf8 c.string.ensures) c.if-not-is_utf8.true)
-
-pub loop-i-preserved : goal.loop-i-preserved
-loop-i-preserved c = c.loop-i.invariant ∙ strings_next _ _ c.loop-i.i _ (omega arith) (c.is_utf8.ensures ∙ ap utf8 c.string.ensures) c.if-not-is_utf8.false
-
 pub returns : goal.returns
-returns c = sym (c.loop-i.invariant ∙ strings_done _ _ c.loop-i.i _ (omega arith))
+returns c =
+    let F = c.args.script.now.bytes.now in
+    let l = c.args.script.now.layout in
+    let n = l.strings in
+    let t = λ (i : ℕ). utf8 (string_at F l i) in
+    all_from_yields_List t _ _ c.all.result c.all.ensures.ran (YieldsList-from_range 0 n n refl (omega arith)) (λ x b q k. search (rules, tests)) ∙ strings_all F l

@@ -1,7 +1,7 @@
 use Rattle.std.proofs.Common.{arith}
 use Rattle.decode.specs.Decode.{function_of}
 use Rattle.decode.proofs.DecodeLaws.{name_found, marks_listed}
-use Rattle.decode.proofs.function_of.Goals as goal
+use Rattle.decode.proofs.FunctionFromRow.from.Goals as goal
 
 pub returns : goal.returns
 unfolding function_of
