@@ -21,7 +21,7 @@ use codegen_state::{BuilderState, LINKS, Stop};
 use constants::context::ScriptContext;
 use refusal::Refusal;
 use rows::no_loop;
-use script_records::layout::{ScriptFile, layout_of};
+use script_records::layout::ScriptFile;
 use script_records::part::Part;
 use slice_words::code::CONSTANT_POOL;
 use slice_words::{LIST_WORDS, MAX_ENTRIES, MAX_VALUES};
@@ -78,14 +78,11 @@ fn statements_of(file: &[u8]) -> Accepted
     requires { check_of file.now ≡ 0 }
     ensures { file_of result.statements ≡ file.now }
 {
-    let layout = layout_of(file);
-    let n = (layout.count as usize).saturating_sub(1);
+    let script = ScriptFile::new(file);
+    let n = (script.layout.count as usize).saturating_sub(1);
     Accepted {
         statements: Trees {
-            script: ScriptFile {
-                bytes: file,
-                layout,
-            },
+            script,
             part: Part { end: n, n },
         },
     }
@@ -114,7 +111,7 @@ fn generate_actions(t: &Trees, context: &mut ScriptContext)
     with_scratch::<256>(t, context)
 }
 
-// No script marks a label twice.
+// A function: neither type is of this crate, and MarkedTwice is no refusal, since no script marks a label twice.
 fn refusal(stop: Stop) -> Refusal
     requires { why.number_of stop ≤ 8 }
     ensures { number_of result ≡ why.number_of stop }

@@ -10,6 +10,7 @@ use lib.ListN.{length, get_or, drop, length-take, length-drop, length-map}
 use borrow.Author.Tests.{lt-ltb, le-ltb, eqb-true, eqb-false, ltb-true, ltb-false}
 use Rattle.std.proofs.Math.Bool.{and-true}
 use Rattle.std.specs.Prelude.{IsSome, IsNone}
+use Rattle.std.specs.Int.{from_bool}
 use Rattle.pcode.specs.Pcode.{Header, Action, Item, moved}
 use Rattle.lowering.specs.Builder.{State, refuse, define_delta, defined}
 use Rattle.list_slice.specs.Entry.{Entry, entry, entry_of, piece_of}
@@ -269,9 +270,14 @@ end_full F h b w base size n k f =
       named = d.named;
     }
 
-module _ {b r : BuilderState} {w w' : List ℕ} {base size number up : ℕ} (f : Fine b w) (n : IsNone b.refused) (a : b.actions < 1024) (y : Ready b w base size) (one : up ≤ 1) (c : Closed b w base size number up r w') where
-  pub closed_fine : Fine r w'
-  closed_fine = let z = y n in rw (c.new, c.words) (ended_fine w b c.moved c.low base size number up f a c.moves z.0 z.1 z.2 z.3 z.4 one)
+-- The library has no bound of a bool as a number, and `omega` reads none off `from_bool`.
+pub one_most : (b : Bool) → from_bool b ≤ 1
+one_most true = omega arith
+one_most false = omega arith
 
-  pub closed_ends : (F : List ℕ) → T (names_function F number) → moved (define_delta (header_in F number)) size ≡ size + up → Ends F (header_in F number) b w base size r w'
-  closed_ends F h e = let z = y n in rw (c.new, c.words) (ended_done w b c.moved c.low base size number up f a c.moves z.0 z.1 z.2 z.3 z.4 one F h e n)
+module _ (up : Bool) {b r : BuilderState} {w w' : List ℕ} {base size number : ℕ} (f : Fine b w) (n : IsNone b.refused) (a : b.actions < 1024) (y : Ready b w base size) (c : Closed b w base size number (from_bool up) r w') where
+  pub closed_fine : Fine r w'
+  closed_fine = let z = y n in rw (c.new, c.words) (ended_fine w b c.moved c.low base size number (from_bool up) f a c.moves z.0 z.1 z.2 z.3 z.4 (one_most up))
+
+  pub closed_ends : (F : List ℕ) → T (names_function F number) → moved (define_delta (header_in F number)) size ≡ size + from_bool up → Ends F (header_in F number) b w base size r w'
+  closed_ends F h e = let z = y n in rw (c.new, c.words) (ended_done w b c.moved c.low base size number (from_bool up) f a c.moves z.0 z.1 z.2 z.3 z.4 (one_most up) F h e n)

@@ -56,7 +56,7 @@ pub fn grow(
     put(list, state.top, entry.code, entry.first, entry.second);
 }
 
-// The entry of the first value of a Push; a later one has a higher code.
+// The entry of the first value of a Push; a later one has a higher code. A function: neither type is of this crate.
 pub(crate) fn value_entry(v: PushValue) -> Entry
     ensures { IsValue v result }
 {

@@ -53,7 +53,8 @@ fn actions_added(code: u32, before: u32) -> u32
     u32::from(code != code::MARK && begins)
 }
 
-// The positions of the labels that one list marks. Its first entry stands last.
+// The positions of the labels that one list marks. Its first entry stands last. The words lie in the lent slice, as a position plus 1, and the code before is kept:
+// the resolver's `mark_list` fills a table of its own, and asks for no code before.
 fn label_positions(list: &mut [u32], from: usize, end: usize)
     requires { Standing list.old from end }
     ensures { (F : List ℕ) → Located list.old (list_at F list.old from end ∷ []) list.new }
@@ -68,7 +69,8 @@ fn label_positions(list: &mut [u32], from: usize, end: usize)
     }
 }
 
-// The positions of the labels that the functions' lists mark.
+// The positions of the labels that the functions' lists mark. The slice that has the ends is written here, list by list; the resolver's passes only read it, and
+// each gives an answer.
 fn function_positions(list: &mut [u32], lists: usize)
     requires { Finished list.old lists }
     ensures { (F : List ℕ) → Located list.old (lists_at F list.old lists) list.new }

@@ -1,5 +1,6 @@
 // A function's list: it begins with nothing, and when it ends it is moved to the finished lists, and the list before goes on with its action.
 ghost use Rattle.std.specs.Prelude.{◌≡◌, List, ℕ, ◌+◌, ◌<◌, ◌≤◌, T, IsNone};
+ghost use Rattle.std.specs.Int.{from_bool};
 ghost use Rattle.pcode.specs.Pcode.{moved};
 ghost use Rattle.lowering.specs.Builder.{define_delta};
 ghost use Rattle.list_slice.specs.File.{header_in, names_function};
@@ -48,13 +49,11 @@ impl CodeBuilder<'_> {
         outer
     }
 
-    // `function` is the number of the function's record, and `up` is how many values it leaves, 0 or 1, a count that is added to the stack's
-    // size.
-    pub fn end_function(&mut self, outer: Outer, function: u32, up: u32)
-        requires ready { Ready self.old.state self.old.list.now outer.base outer.size }
-        requires up_bound { up ≤ 1 }
+    // `function` is the number of the function's record, and `up` says whether it leaves a value.
+    pub fn end_function(&mut self, outer: Outer, function: u32, up: bool)
+        requires { Ready self.old.state self.old.list.now outer.base outer.size }
         ensures keeps { Keeps self.old self.new }
-        ensures ends { (F : List ℕ) → T (names_function F function) → moved (define_delta (header_in F function)) outer.size ≡ outer.size + up →
+        ensures ends { (F : List ℕ) → T (names_function F function) → moved (define_delta (header_in F function)) outer.size ≡ outer.size + from_bool up →
             EndsList F (header_in F function) self.old outer.base outer.size self.new }
     {
         if self.state.refused.is_some() {
@@ -69,13 +68,12 @@ impl CodeBuilder<'_> {
 
     // The reader's `close` has the last entry alone in common: it counts no actions and sizes, and settles branches entry by entry.
     // The list under construction joins the finished ones, and an entry in the place of its first one has the function's number.
-    fn close(&mut self, outer: Outer, function: u32, up: u32)
+    fn close(&mut self, outer: Outer, function: u32, up: bool)
         requires going { IsNone self.old.state.refused }
         requires actions_bound { self.old.state.actions < 1024 }
         requires ready { Ready self.old.state self.old.list.now outer.base outer.size }
-        requires up_bound { up ≤ 1 }
         ensures keeps { Keeps self.old self.new }
-        ensures closed { Closed self.old.state self.old.list.now outer.base outer.size function up self.new.state self.new.list.now }
+        ensures closed { Closed self.old.state self.old.list.now outer.base outer.size function (from_bool up) self.new.state self.new.list.now }
     {
         let list = &mut *self.list;
         let state = &mut self.state;
@@ -84,7 +82,7 @@ impl CodeBuilder<'_> {
         list[ENDS_AT + state.lists as usize] = low as u32;
         state.actions += 1;
         state.lists += 1;
-        state.size = outer.size + up;
+        state.size = outer.size + u32::from(up);
         state.sizes -= outer.size;
         state.low = low;
         state.top = end - 1;

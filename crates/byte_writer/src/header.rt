@@ -16,7 +16,7 @@ use decode::{Function, function_of};
 use hir::Record;
 use script_records::layout::ScriptFile;
 use script_records::part::Part;
-use slice_words::{NO_STRING, code, param_of, text};
+use slice_words::{NO_STRING, Param, code, text};
 use tree::Trees;
 
 // How many bytes a parameter takes.
@@ -24,7 +24,7 @@ fn param_size(script: &ScriptFile, root: Record, wide: bool) -> usize
     requires { length script.now.bytes.now ≤ max_bytes }
     ensures { result ≡ length (text_at script.now.bytes.now script.now.layout (param_of root).name) + 1 + from_bool wide }
 {
-    text(script, param_of(root).name).len() + 1 + usize::from(wide)
+    text(script, Param::from(root).name).len() + 1 + usize::from(wide)
 }
 
 fn params_size(params: &Trees, wide: bool) -> usize
@@ -68,7 +68,7 @@ impl Writer<'_> {
         requires room { HasRoom self.old (param_data wide (param (rec_of self.old.script.bytes.now root))) }
         ensures { Writes self.old (param_data wide (param (rec_of self.old.script.bytes.now root))) self.new }
     {
-        let param = param_of(root);
+        let param = Param::from(root);
         if wide {
             self.word(1, param.register);
         }

@@ -30,7 +30,8 @@ impl Stop {
     }
 }
 
-// After `refused` no step is done. Counted over all lists: actions, push values, labels made, marks, strings of
+// After `refused` no step is done. No Result: a step may be called after a refusal too and does nothing there, so that a caller has
+// nothing to do with an Err. Counted over all lists: actions, push values, labels made, marks, strings of
 // the pool, finished lists. `total` is the pool's 16-bit total, `size` the tracked stack size, `sizes` the sum of those of the lists that wait for a
 // function's list to end. The finished lists end before entry `low`; the list under construction stands from entry `top` to `base`, its last entry
 // first, and the lists that wait from `base` on. Those are positions in the lent words, since the two calls use no heap.

@@ -166,7 +166,7 @@ pub enum StatementKind {
 }
 
 // Absent: the record that stands in the file for a child that is not there. Other: one that refusal 3 names, or that no kind has. Both are records, which
-// have a place in the file and are walked, and no lack of one. A parameter's register is its number plus 1, or 0 for none: `slice_words::param_of` takes 1 off it,
+// have a place in the file and are walked, and no lack of one. A parameter's register is its number plus 1, or 0 for none: `slice_words::Param` takes 1 off it,
 // so that 0 stays 0, as an action has it.
 #[derive(Clone, Copy)]
 pub enum Record {

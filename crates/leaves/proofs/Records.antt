@@ -25,6 +25,7 @@ use Rattle.script.specs.Resolve.{resolved}
 use Rattle.lowering.specs.Meaning.{Meaning, Shape, param, hoisted, is_named, shape_of, kid}
 use Rattle.lowering.specs.Statement.{meanings}
 use Rattle.list_slice.specs.File.{text_in, names_string}
+use Rattle.slice_words.specs.References.{param_of}
 use Rattle.tree.specs.declared.Node.{Node}
 use Rattle.tree.specs.Trees.{rec_of, trees, node_of, kind_at}
 use Rattle.tree.specs.Within.{Within, IsNode, record_named, kid_at, list_at}
@@ -42,26 +43,17 @@ use Rattle.rows.proofs.Passed.{below, none_below, below_end, child_kind}
 abbrev pub Names : List ℕ → Record → ℕ → Type 0
 Names F root s = (text_in F s ≡ (param (rec_of F root)).name) × T (names_string F s)
 
-pub key_name : (F : List ℕ) (i : ℕ) {root : Record} {s : ℕ} → root ≡ kind.ObjectField s → length F ≤ 1048576 → T (record_named F i root) → Names F root s
+pub named : (F : List ℕ) (i : ℕ) (root : Record) → length F ≤ 1048576 → T (record_named F i root) → Names F root (param_of root).name
 unfolding resolved
-key_name F i {s = s} e h t = (rw e (text_is F s h), rw e at t)
-
-pub parameter_name : (F : List ℕ) (i : ℕ) {root : Record} {s n : ℕ} → root ≡ kind.Parameter s n → length F ≤ 1048576 → T (record_named F i root) → Names F root s
-unfolding resolved
-parameter_name F i {s = s} e h t = (rw e (text_is F s h), rw e at t)
-
-pub other_name : (root : Record) → ((s : ℕ) → root ≡ kind.ObjectField s → ⊥) → ((s n : ℕ) → root ≡ kind.Parameter s n → ⊥) →
-    (F : List ℕ) (i : ℕ) → length F ≤ 1048576 → T (record_named F i root) → Names F root 0xffff_ffff
-unfolding resolved
-other_name (kind.ObjectField s) h g F i = absurd (h s refl)
-other_name (kind.Parameter s n) h g F i = absurd (g s n refl)
-other_name (kind.Statement k) h g F i = λ _ _. (no_text_lem F, no_text_named F)
-other_name (kind.Expr k) h g F i = λ _ _. (no_text_lem F, no_text_named F)
-other_name kind.Absent h g F i = λ _ _. (no_text_lem F, no_text_named F)
-other_name (kind.List n) h g F i = λ _ _. (no_text_lem F, no_text_named F)
-other_name kind.Case h g F i = λ _ _. (no_text_lem F, no_text_named F)
-other_name kind.Default h g F i = λ _ _. (no_text_lem F, no_text_named F)
-other_name kind.Other h g F i = λ _ _. (no_text_lem F, no_text_named F)
+named F i (kind.ObjectField s) h t = (text_is F s h, t)
+named F i (kind.Parameter s n) h t = (text_is F s h, t)
+named F i (kind.Statement k) h t = (no_text_lem F, no_text_named F)
+named F i (kind.Expr k) h t = (no_text_lem F, no_text_named F)
+named F i kind.Absent h t = (no_text_lem F, no_text_named F)
+named F i (kind.List n) h t = (no_text_lem F, no_text_named F)
+named F i kind.Case h t = (no_text_lem F, no_text_named F)
+named F i kind.Default h t = (no_text_lem F, no_text_named F)
+named F i kind.Other h t = (no_text_lem F, no_text_named F)
 
 -- a hoisted function
 

@@ -35,7 +35,7 @@ use pcode::{Label, Op, PushValue};
 use script_records::kind::Kind;
 use script_records::layout::ScriptFile;
 use script_records::part::Part;
-use slice_words::NO_STRING;
+use slice_words::Param;
 use tree::{Counts, Element, Trees};
 
 // An assignment whose value is discarded, or wanted. The flag is a value that the callers were given: a closure for the step would be chosen by the same `if`, at
@@ -184,16 +184,11 @@ pub fn push_if(builder: &mut CodeBuilder, cases: u32)
     }
 }
 
-// An object field's key, a parameter's name; any other record has no name, for which the words of a list have this reference. A function, since neither
-// Record nor u32 is of this crate, where their From could stand.
+// An object field's key, a parameter's name; any other record has no name.
 pub fn name_of(root: Record) -> u32
     ensures { (F : List ℕ) (i : ℕ) → length F ≤ 1048576 → T (record_named F i root) → (text_in F result ≡ (param (rec_of F root)).name) × T (names_string F result) }
 {
-    match root {
-        Record::ObjectField(key) => key,
-        Record::Parameter { name, .. } => name,
-        _ => NO_STRING,
-    }
+    Param::from(root).name
 }
 
 // A statement that is an expression.

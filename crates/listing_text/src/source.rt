@@ -3,7 +3,7 @@ use crate::text::Text;
 use decode::{function_of, record_of};
 use script_records::layout::{Row, ScriptFile};
 use script_records::part::Part;
-use slice_words::param_of;
+use slice_words::Param;
 use std::io::Write;
 use std::{fmt, io};
 use text_lines::split_once;
@@ -133,7 +133,7 @@ impl Source for ScriptFile<'_> {
         let rows = parameter_rows(self, reference as usize);
         let start = rows.end.checked_sub(rows.n).unwrap_or(rows.end);
         for i in start..rows.end {
-            let param = param_of(record_of(self.row_at(i)));
+            let param = Param::from(record_of(self.row_at(i)));
             let parameter = Parameter {
                 name: Source::string(self, param.name),
                 register: with_registers.then_some(param.register),

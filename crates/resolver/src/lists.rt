@@ -9,7 +9,7 @@ ghost use Rattle.resolver.specs.Texts.{Ready};
 ghost use Rattle.resolver.specs.Passes.{Stands};
 ghost use Rattle.resolver.specs.Props.{operand_prop, all_fine_prop, truth_prop};
 
-use script_records::layout::{ScriptFile, layout_of};
+use script_records::layout::ScriptFile;
 use slice_words::{ENDS_AT, POOL_AT};
 
 #[derive(Clone, Copy)]
@@ -61,10 +61,7 @@ impl<'a> Lists<'a> {
         ensures script { (result.script.bytes.now ≡ file.now) × (result.script.layout ≡ layout_of file.now) }
         ensures list { result.list.now ≡ list.now }
     {
-        let script = ScriptFile {
-            bytes: file,
-            layout: layout_of(file),
-        };
+        let script = ScriptFile::new(file);
         let count = count_lists(list);
         Lists {
             script,

@@ -15,6 +15,7 @@ pub(crate) struct Places {
 }
 
 impl Places {
+    // Two tables, of which each takes one type of number and gives another: what they share is `word_of`.
     pub(crate) fn place_of(&self, l: Label) -> Position
         ensures { result.0 ≡ get_or self.now.labels l.0 0 }
     {

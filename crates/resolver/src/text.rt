@@ -9,7 +9,7 @@ ghost use Rattle.resolver.specs.Texts.{Few, with_text, texts_of, param_names, fu
 use crate::lists::Lists;
 use decode::function_of;
 use script_records::part::Part;
-use slice_words::{Entry, NO_STRING, POOL_AT, code, entry_at, param_of, text};
+use slice_words::{Entry, NO_STRING, POOL_AT, Param, code, entry_at, text};
 use tree::Trees;
 
 // Strings in a row: their bytes, each with its zero byte, how many there are, and whether no other byte of them is zero. `clear` doesn't make an Option of
@@ -187,7 +187,7 @@ fn params_text(params: &Trees) -> Text
 {
     let mut t = Text::NONE;
     for tree in *params {
-        let param = param_of(tree.node().root);
+        let param = Param::from(tree.node().root);
         t = t.with(text(&tree.script, param.name));
     }
     t

@@ -108,6 +108,7 @@ fn body_of(entry: Entry, sizes: &[u32; 1024]) -> u32
 }
 
 impl Lists<'_> {
+    // The entry is each loop's own count, here and where its data or its branch is asked for: nothing goes with it.
     fn walk_entry(&self, e: usize, sizes: &[u32; 1024], k: Walk) -> Option<Walk>
         requires known { Known self.now.script.bytes.now self.now.list.now e }
         requires room { Room k }
@@ -117,6 +118,8 @@ impl Lists<'_> {
         k.with(entry.code, self.entry_data(e).bytes, body_of(entry, sizes))
     }
 
+    // Four loops over a list's entries, with `resolve_list`: what each keeps and when it stops differs. This one keeps sizes and stops at a record that is too
+    // long, the next a flag, then a position, and `resolve_list` the two.
     // The records of a list and where each begins: none if one is too long.
     pub(crate) fn walk_list(
         &self,
@@ -137,7 +140,7 @@ impl Lists<'_> {
         Some(k)
     }
 
-    // No string of a list has a zero byte.
+    // No string of a list has a zero byte. A loop, and no `all`, whose closure would have to require that its entry is known: the range says it at each turn.
     pub(crate) fn clear_list(&self, j: usize) -> bool
         requires { j < self.now.count }
         ensures { let w = self.now.list.now in
@@ -150,7 +153,7 @@ impl Lists<'_> {
         clear
     }
 
-    // The positions of the labels that a list marks.
+    // The positions of the labels that a list marks, in a table of its own: the builder's `label_positions` writes into the lent slice.
     pub(crate) fn mark_list(&self, j: usize, places: &mut [u32; 1024])
         requires { j < self.now.count }
         ensures { let w = self.now.list.now in (F : List ℕ) → Standing F w (start_of w j) (end_of w j) →

@@ -191,11 +191,6 @@ module _ {F : List ℕ} {l : Layout} {g0 g : Part} {top : ℕ} (i : Going F l g0
         (record { kept = λ o lp a. kept_same F l o lp lo x (set x top g.end) top rest.end g0.end (λ k p. sym (get_or-set_other x top k g.end 0 (omega arith))) (m.kept o lp a) })
     noted_more n r {b = false} q k = rw k (noted_in n r)
 
--- The library has no bound of a bool as a number, and `omega` reads none off `from_bool`.
-pub one_most : (b : Bool) → from_bool b ≤ 1
-one_most true = omega arith
-one_most false = omega arith
-
 -- where the walk stops
 pub noted_down : {F : List ℕ} {l : Layout} {out : Part → Bool} {g0 : Part} {x : List ℕ} {g : Part} {top stop : ℕ} → Going F l g0 g top → Noted F l out g0 x g top → g.end ≤ stop →
     KeptDown F l out stop g0 x top

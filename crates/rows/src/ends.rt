@@ -39,6 +39,7 @@ fn first_label(row: &Trees) -> usize
     end
 }
 
+// That the closure may be called is asked wherever one is taken.
 // How many trees there are that do not end before record `stop`, but those that are left out. Where each of them ends is left in `scratch`, the last lowest.
 fn ends_but<'a, F: Fn(Trees<'a>) -> bool>(
     row: &Trees<'a>,
@@ -64,7 +65,7 @@ fn ends_but<'a, F: Fn(Trees<'a>) -> bool>(
 }
 
 // Of a switch's elements those before the first Case or Default generate nothing: they are taken from the top. The answer is how many are left, of which 0 is
-// one.
+// one. A loop, and no `rposition`, whose closure would have to require that a tree ends there: the loop's invariant says it at each turn.
 fn from_label(row: &Trees, ends: &[usize], lp: Loop) -> usize
     requires { KeptOf (file_of row.now) row.now.script.layout Each.Element (loop_of lp) row.now.part ends.now (length ends.now) }
     ensures few { result ≤ length ends.now }

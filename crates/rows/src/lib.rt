@@ -28,20 +28,17 @@ pub enum Each {
 }
 
 // Where Break and Continue jump to, if they are in a loop or a switch.
-#[derive(Clone, Copy)]
+#[derive(Clone, Copy, Default)]
 pub struct Loop {
     pub exit: Option<Label>,
     pub next: Option<Label>,
 }
 
-// A function, and no derived Default: its contract says what the definition calls no loop.
+// The derived Default by the name that the definition gives it.
 pub fn no_loop() -> Loop
     ensures { loop_of result ≡ no_loop }
 {
-    Loop {
-        exit: None,
-        next: None,
-    }
+    Loop::default()
 }
 
 // Break jumps to `exit`, Continue to `next`.

@@ -12,8 +12,8 @@ use script_records::kind::Kind;
 use script_records::layout::ScriptFile;
 use tree::Trees;
 
-// Whether the record under the one below record e is of a kind. Kinds are compared as the numbers that the rows have: `Kind::try_from` would first look for
-// each among all.
+// Whether the record under the one below record e is of a kind. The row's word is compared with that kind's number: `Kind::try_from` would look the word up in
+// a table and test what it finds, and the kind would be compared all the same.
 fn is_under(script: &ScriptFile, e: usize, kind: Kind) -> bool
     requires { (0 < e) × HasRow script.now.bytes.now script.now.layout (e - 1) }
     ensures { result ≡ eqb (row_in (rows_of script.now.bytes.now script.now.layout) (e - 2)).kind (number_of kind) }

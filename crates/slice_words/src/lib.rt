@@ -71,27 +71,28 @@ pub fn text<'a>(script: &ScriptFile<'a>, reference: u32) -> &'a [u8]
     script.string(reference as usize)
 }
 
-// A parameter: the reference of its name, and its register, 0 for none.
+// A parameter: the reference of its name, and its register, 0 for none, as the action's byte is.
 #[derive(Clone, Copy)]
 pub struct Param {
     pub name: u32,
     pub register: u32,
 }
 
-// A parameter's record holds its register plus 1, or 0 for none. Any other record is a parameter with no name:
-// so this is a reading of two kinds of records, and no From by which any record would convert.
-pub fn param_of(root: Record) -> Param
-    ensures { result ≡ param_of root }
-{
-    match root {
-        Record::Parameter { name, register } => Param {
-            name,
-            register: u32::from(register.saturating_sub(1)),
-        },
-        Record::ObjectField(name) => Param { name, register: 0 },
-        _ => Param {
-            name: NO_STRING,
-            register: 0,
-        },
+// A parameter's record holds its register plus 1, or 0 for none. An object's field has its key for a name, and any other record has none.
+impl From<Record> for Param {
+    ghost from_gives = { λ root param. param ≡ param_of root };
+
+    fn from(root: Record) -> Self {
+        match root {
+            Record::Parameter { name, register } => Param {
+                name,
+                register: u32::from(register.saturating_sub(1)),
+            },
+            Record::ObjectField(name) => Param { name, register: 0 },
+            _ => Param {
+                name: NO_STRING,
+                register: 0,
+            },
+        }
     }
 }

@@ -789,5 +789,5 @@ fn gen_function(
     gen_statements(&body, context, scratch, idle);
     context
         .builder
-        .end_function(outer, number as u32, u32::from(up));
+        .end_function(outer, number as u32, up);
 }

@@ -1,7 +1,8 @@
 -- Counting the trees of a part from the last to the first.
 use Prim.Native.Nat.{ℕ, suc, ◌+◌, ◌≤◌, ◌<◌}
 use mathlib.Core.Path.{◌≡◌, refl, sym, ap, ◌∙◌}
-use mathlib.Core.List.{List}
+use mathlib.Core.List.{List, [], ◌∷◌}
+use lib.ListN.{length}
 use Rattle.std.specs.Prelude.{Option, None, Some, option_map}
 use Rattle.std.specs.Option.{option_or}
 use native.Mathlib.Omega.{arith}
@@ -10,6 +11,7 @@ use Rattle.hir.specs.Tree.{Forest, more}
 use Rattle.hir.specs.declared.Record.{Record}
 use Rattle.hir.specs.declared.Record.TheVariants as kind
 use Rattle.script_records.specs.declared.layout.Layout.{Layout}
+use Rattle.script_records.specs.declared.layout.ScriptFile.{ScriptFile}
 use Rattle.script_records.specs.declared.part.Part.{Part}
 use Rattle.script_records.specs.Layout.{layout_of, string_at}
 use Rattle.script.specs.Resolve.{resolved}
@@ -21,6 +23,9 @@ use Rattle.tree.specs.declared.Counts.{Counts}
 use Rattle.tree.specs.Trees.{meant, trees, rec_of, element_of, node_of, labelled, cases, from_default_of, counts_of}
 use Rattle.tree.specs.Count.{Few, with_tree}
 use Rattle.tree.specs.Within.{Within}
+use Rattle.tree.specs.Handle.{file_of, trees_of, GivesLast}
+use Rattle.tree.specs.declared.Trees.{Trees}
+use Rattle.std.specs.Iterator.{Drains}
 use Rattle.tree.proofs.Nodes.{is_node, trees_more, trees_none}
 
 -- what lowering calls an element
@@ -122,25 +127,15 @@ module _ (F : List ℕ) (l : Layout) (p : Part) where
           cases = omega arith;
         })
 
--- the trees of p that are not in `left`, by their number alone
-pub record Measured (F : List ℕ) (l : Layout) (p : Part) (count : ℕ) (left : Part) : Type 0 where
-  pub whole : count + meaning.width (trees F left) ≡ meaning.width (trees F p)
-  pub small : p.n < 65536
-  pub fewer : count + left.n ≤ p.n
+same_width : {F G : List ℕ} {p q : Part} → F ≡ G → p ≡ q → meaning.width (trees F p) ≡ meaning.width (trees G q)
+same_width e h = rw (e, h)
 
-pub measured_start : (F : List ℕ) (l : Layout) (p : Part) → Within F l p → Measured F l p 0 p
-measured_start F l p w = record { whole = omega arith; small = omega (arith, w.inside, w.known, w.sound.few); fewer = omega arith }
-
-module _ {F : List ℕ} {l : Layout} {p : Part} {count : ℕ} {left : Part} (i : Measured F l p count left) where
-  pub measured_done : left.n ≡ 0 → count ≡ meaning.width (trees F p)
-  measured_done z = let w = rw (trees_none F left z) at i.whole in omega (arith, w)
-
-  module _ (z : 0 < left.n) where
-    pub measured_few : count + 1 < 65536
-    measured_few = omega (arith, i.small, i.fewer)
-
-    pub measured_next : Within F l left → {rest : Part} → rest ≡ (node_of F l left).before → Measured F l p (count + 1) rest
-    measured_next v e =
-        let g = is_node F l left v refl in
-        let w = rw (trees_more F l left g z) at i.whole in
-        rw e (record { whole = omega (arith, w); small = i.small; fewer = omega (arith, g.apart, i.fewer) })
+-- the steps over trees give each of them once
+pub each_once : (s : Trees) (xs : List Trees) → Drains GivesLast s xs → length xs ≡ meaning.width (trees_of s)
+each_once s [] d = sym (ap meaning.width (trees_none (file_of s) s.part (rw d.1.1 d.1.2.0)))
+each_once s (x ∷ xs) d =
+    let step = d.1.1.1 in
+    let next = d.1.1.0 in
+    let more = trees_more (file_of s) s.script.layout s.part (is_node (file_of s) s.script.layout s.part s.within refl) step.1 in
+    let rest = each_once next xs (d.0, (d.1.0, d.1.1.2, d.1.2)) ∙ same_width (ap (λ (f : ScriptFile). f.bytes.now) step.2.script) step.2.part in
+    rw more (ap suc rest)

@@ -215,7 +215,8 @@ impl<'a> Trees<'a> {
         }
     }
 
-    // The kind of the last tree's record, and that of an absent child where there is none.
+    // The kind of the last tree's record, and that of an absent child where there is none. The word itself: the loops over rows compare it with one or two
+    // kinds, and a Kind would be looked up in the table and tested at each tree first.
     pub fn kind(&self) -> u32
         ensures { result ≡ kind_at (file_of self.now) self.now.script.layout self.now.part }
     {
@@ -260,11 +261,7 @@ impl<'a> Trees<'a> {
     pub fn width(&self) -> u32
         ensures { result ≡ width (trees_of self.now) }
     {
-        let mut count = 0;
-        for _ in *self {
-            count += 1;
-        }
-        count
+        self.count() as u32
     }
 
     // The trees up to the one n places before the last.

@@ -4,4 +4,4 @@ use Rattle.as2_codegen.proofs.Meets.{whole_within}
 use Rattle.as2_codegen.proofs.statements_of.Goals as goal
 
 pub invariant_of-result : goal.invariant_of-result
-invariant_of-result c = record { within = whole_within c.args.file.now c.requires c.layout_of-layout.ensures (rw (c.saturating_sub-n.ensures) (ap statements_part c.layout_of-layout.ensures)) }
+invariant_of-result c = record { within = rw c.new-script.ensures.bytes (whole_within c.args.file.now c.requires c.new-script.ensures.layout (rw (c.saturating_sub-n.ensures) (ap statements_part c.new-script.ensures.layout))) }

@@ -23,7 +23,6 @@ use Rattle.operators.proofs.Shapes.{shape_is, literal_is, shape_named}
 use Rattle.builder.proofs.Body.{ready, function_done}
 use Rattle.access.proofs.Texts.{text_is}
 use Rattle.rows.specs.Rows.{loop_of}
-use Rattle.rows.proofs.Kept.{one_most}
 use Rattle.leaves.proofs.Args.{expr_at, args_again, args_stopped, args_done}
 use Rattle.statement.proofs.Laws.{rec_is, element_at, value_at, value_live, no_expr, statement_at, no_statement, untested, access_at, literal_of, none_at, labels_counted, labels_less, default_less, switching, no_labels, some_labels, function_at, function_size, literal_named, field_live, kids_less, in_kids, number_less, plain_access, bit_is, rank_least, rank_kept}
 use Rattle.statement.proofs.Walks.{start, walked, acted, built, pushed, walks, walk}
@@ -440,17 +439,14 @@ gen_for_loop-returns-in-Classic t c = walks (built {d = c.each.new.context} (kee
 pub gen_for_loop-returns-in-Enumerate : goal.gen_for_loop-returns-in-Enumerate
 gen_for_loop-returns-in-Enumerate t c = walks (built {d = c.gen_statement.new.context} (keeps_then (c.jump.ensures (file_of c.args.t.now)).keeps (keeps_then (c.truncate_stack.ensures (file_of c.args.t.now)).keeps (c.mark_label-in-Enumerate.ensures (file_of c.args.t.now)).keeps)).list (walked c.gen_statement.ensures (acted c.gen_target.ensures (built {d = c.gen_expr.new.context} (keeps_then (c.action.ensures (file_of c.args.t.now)).keeps (keeps_then (c.mark_label.ensures (file_of c.args.t.now)).keeps (keeps_then (c.store_register.ensures (file_of c.args.t.now)).keeps (keeps_then c.push.ensures.keeps (keeps_then (c.action-in-Enumerate.ensures (file_of c.args.t.now)).keeps (c.branch-context.ensures (file_of c.args.t.now)).keeps))))).list (walked c.gen_expr.ensures (built {d = c.args.context.now} (keeps_then (c.create_label-end.ensures (file_of c.args.t.now)).keeps (c.create_label-next.ensures (file_of c.args.t.now)).keeps).list start)))))) (rw c.in-Enumerate.is (for_in_arm c.args.t.now.script.layout c.args.t.now.part (target_over (string_at (file_of c.args.t.now) (layout_of (file_of c.args.t.now))) c.in-Enumerate.target) c.kid-object.ensures.kid (loop_of c.loop_to-inner.result) c.loop_to-inner.ensures (c.create_label-end.ensures (file_of c.args.t.now)).does (c.create_label-next.ensures (file_of c.args.t.now)).does (rw c.kid-object.ensures.script at c.gen_expr.ensures.does) (c.action.ensures (file_of c.args.t.now)).does (c.mark_label.ensures (file_of c.args.t.now)).does (c.store_register.ensures (file_of c.args.t.now)).does (c.push.ensures.runs (file_of c.args.t.now) tt).does (c.action-in-Enumerate.ensures (file_of c.args.t.now)).does (c.branch-context.ensures (file_of c.args.t.now)).does (rw ((walked c.gen_expr.ensures (built {d = c.args.context.now} (keeps_then (c.create_label-end.ensures (file_of c.args.t.now)).keeps (c.create_label-next.ensures (file_of c.args.t.now)).keeps).list start)).script ∙ c.requires.walk.script) at c.gen_target.ensures.does) c.gen_statement.ensures.does (c.jump.ensures (file_of c.args.t.now)).does (c.truncate_stack.ensures (file_of c.args.t.now)).does (c.mark_label-in-Enumerate.ensures (file_of c.args.t.now)).does))
 
-pub gen_function-end_function-requires-clause-ready : goal.gen_function-end_function-requires-clause-ready
-gen_function-end_function-requires-clause-ready t c = rw (c.begin_function-outer.ensures.outer.0, c.begin_function-outer.ensures.outer.1) (ready (file_of c.args.t.now) _ c.args.context.now.builder.state _ c.args.context.now.builder.fine (rw (c.begin_function-outer.ensures.state, c.begin_function-outer.ensures.list, c.no_loop-idle.ensures, ← c.list-body.ensures.list.means) at (rw c.list-body.ensures.script at c.gen_statements.ensures.does)))
-
-pub gen_function-end_function-requires-clause-up_bound : goal.gen_function-end_function-requires-clause-up_bound
-gen_function-end_function-requires-clause-up_bound t c = rw c.from.ensures (one_most c.args.up)
+pub gen_function-end_function-requires : goal.gen_function-end_function-requires
+gen_function-end_function-requires t c = rw (c.begin_function-outer.ensures.outer.0, c.begin_function-outer.ensures.outer.1) (ready (file_of c.args.t.now) _ c.args.context.now.builder.state _ c.args.context.now.builder.fine (rw (c.begin_function-outer.ensures.state, c.begin_function-outer.ensures.list, c.no_loop-idle.ensures, ← c.list-body.ensures.list.means) at (rw c.list-body.ensures.script at c.gen_statements.ensures.does)))
 
 pub gen_function-invariant_of-context-2 : goal.gen_function-invariant_of-context-2
 gen_function-invariant_of-context-2 t c = record { laid_out = c.gen_statements.new.context.laid_out; indexed = index_stays c.end_function.ensures.keeps.pool c.gen_statements.new.context.indexed }
 
 pub gen_function-returns : goal.gen_function-returns
-gen_function-returns t c = λ nf mv. walks (built {d = c.gen_statements.new.context} c.end_function.ensures.keeps.list (walked c.gen_statements.ensures (built {d = c.args.context.now} c.begin_function-outer.ensures.keeps.list start))) (function_done (file_of c.args.t.now) _ c.args.context.now.builder.state _ c.args.context.now.builder.fine (rw (c.begin_function-outer.ensures.state, c.begin_function-outer.ensures.list, c.no_loop-idle.ensures, ← c.list-body.ensures.list.means) at (rw c.list-body.ensures.script at c.gen_statements.ensures.does)) _ (rw (c.begin_function-outer.ensures.outer.0, c.begin_function-outer.ensures.outer.1) at (c.end_function.ensures.ends (file_of c.args.t.now) nf (rw (c.begin_function-outer.ensures.outer.1, c.from.ensures) mv)).ends))
+gen_function-returns t c = λ nf mv. walks (built {d = c.gen_statements.new.context} c.end_function.ensures.keeps.list (walked c.gen_statements.ensures (built {d = c.args.context.now} c.begin_function-outer.ensures.keeps.list start))) (function_done (file_of c.args.t.now) _ c.args.context.now.builder.state _ c.args.context.now.builder.fine (rw (c.begin_function-outer.ensures.state, c.begin_function-outer.ensures.list, c.no_loop-idle.ensures, ← c.list-body.ensures.list.means) at (rw c.list-body.ensures.script at c.gen_statements.ensures.does)) _ (rw (c.begin_function-outer.ensures.outer.0, c.begin_function-outer.ensures.outer.1) at (c.end_function.ensures.ends (file_of c.args.t.now) nf (rw c.begin_function-outer.ensures.outer.1 mv)).ends))
 
 pub gen_if-invariant_of-context : goal.gen_if-invariant_of-context
 gen_if-invariant_of-context t c = record { laid_out = c.args.context.now.laid_out; indexed = index_stays (c.create_label-end.ensures (file_of c.args.t.now)).keeps.pool c.args.context.now.indexed }

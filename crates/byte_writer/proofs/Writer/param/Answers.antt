@@ -10,19 +10,19 @@ use Rattle.byte_writer.proofs.Writer.param.Goals.{then-wide, else-wide}
 pub word-requires : goal.word-requires
 word-requires c =
     let s = c.args.self.now.script in
-    has_first c.args.self.now (word 1 c.param_of-param.result.register) (zero_ended (text_at s.bytes.now s.layout c.param_of-param.result.name))
-    (rw (param_parts _ _ c.requires.layout c.requires.short c.args.root c.args.wide c.param_of-param.ensures, c.if-wide.true) at c.requires.room)
+    has_first c.args.self.now (word 1 c.from-param.result.register) (zero_ended (text_at s.bytes.now s.layout c.from-param.result.name))
+    (rw (param_parts _ _ c.requires.layout c.requires.short c.args.root c.args.wide c.from-param.ensures, c.if-wide.true) at c.requires.room)
 
 pub text-requires : goal.text-requires
 text-requires c =
-    let r : Writes c.args.self.now (register_data c.args.wide c.param_of-param.result) c.if-wide.self =
+    let r : Writes c.args.self.now (register_data c.args.wide c.from-param.result) c.if-wide.self =
     elim c.if-wide.branch [ then-wide w ↦ rw (w.self-is, w.if-wide.true) w.word.ensures | else-wide w ↦ rw (w.self-is, w.if-wide.false) (writes_none c.args.self.now) ] in
-    has_next (λ (s : ScriptFile). zero_ended (text_at s.bytes.now s.layout c.param_of-param.result.name)) r
-    (rw (param_parts _ _ c.requires.layout c.requires.short c.args.root c.args.wide c.param_of-param.ensures) at c.requires.room)
+    has_next (λ (s : ScriptFile). zero_ended (text_at s.bytes.now s.layout c.from-param.result.name)) r
+    (rw (param_parts _ _ c.requires.layout c.requires.short c.args.root c.args.wide c.from-param.ensures) at c.requires.room)
 
 pub returns : goal.returns
 returns c =
-    let r : Writes c.args.self.now (register_data c.args.wide c.param_of-param.result) c.if-wide.self =
+    let r : Writes c.args.self.now (register_data c.args.wide c.from-param.result) c.if-wide.self =
     elim c.if-wide.branch [ then-wide w ↦ rw (w.self-is, w.if-wide.true) w.word.ensures | else-wide w ↦ rw (w.self-is, w.if-wide.false) (writes_none c.args.self.now) ] in
-    rw (param_parts _ _ c.requires.layout c.requires.short c.args.root c.args.wide c.param_of-param.ensures)
-    (writes_next (λ (s : ScriptFile). zero_ended (text_at s.bytes.now s.layout c.param_of-param.result.name)) r c.text.ensures)
+    rw (param_parts _ _ c.requires.layout c.requires.short c.args.root c.args.wide c.from-param.ensures)
+    (writes_next (λ (s : ScriptFile). zero_ended (text_at s.bytes.now s.layout c.from-param.result.name)) r c.text.ensures)

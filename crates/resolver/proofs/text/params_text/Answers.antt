@@ -11,7 +11,7 @@ loop-tree-preserved c =
     let s = c.in-Some.ensures.steps in (
       s.2.script ∙ i.0,
       params_again i.1 (rw (s.0, i.0) at c.node.ensures.node) s.1 (rw i.0 at s.2.part)
-          (rw (s.0, i.0, c.param_of-param.ensures) at (c.text.ensures.in_file c.in-Some.tree.within.layout)) c.with-t.ensures,
+          (rw (s.0, i.0, c.from-param.ensures) at (c.text.ensures.in_file c.in-Some.tree.within.layout)) c.with-t.ensures,
     )
 
 pub returns-clause-value : goal.returns-clause-value

@@ -2,7 +2,8 @@ use mathlib.Core.Bool.{not}
 use mathlib.Core.Path.{refl, ap, ◌∙◌}
 use native.Mathlib.Omega.{arith}
 use Rattle.tree.specs.declared.Trees.{Trees}
-use Rattle.rows.proofs.Kept.{going_start, going_on, noted_start, noted_more, noted_down, one_most}
+use Rattle.builder.proofs.Ended.{one_most}
+use Rattle.rows.proofs.Kept.{going_start, going_on, noted_start, noted_more, noted_down}
 use Rattle.rows.proofs.ends.ends_but.Goals as goal
 
 pub loop-tree-init : goal.loop-tree-init

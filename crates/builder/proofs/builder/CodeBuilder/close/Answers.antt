@@ -10,7 +10,7 @@ pub overflow_sub-state-2 : goal.overflow_sub-state-2
 overflow_sub-state-2 c = omega (arith, room_action c.args.self.now.fine c.requires.actions_bound, c.args.self.now.fine.base)
 
 pub invariant_of-self : goal.invariant_of-self
-invariant_of-self c = record { fine = closed_fine c.args.self.now.fine c.requires.going c.requires.actions_bound c.requires.ready c.requires.up_bound (record { low = _; moved = _; moves = c.move_list-low.ensures; new = refl; words = c.put.ensures }) }
+invariant_of-self c = record { fine = rw c.from.ensures (closed_fine c.args.up c.args.self.now.fine c.requires.going c.requires.actions_bound c.requires.ready (record { low = _; moved = _; moves = c.move_list-low.ensures; new = refl; words = c.put.ensures })) }
 
 pub returns-clause-keeps : goal.returns-clause-keeps
-returns-clause-keeps c = wrote (c.put.auto.list ∙ length-set _ _ _ ∙ c.move_list-low.auto.list) (closed_pool c.args.self.now.fine (room_action c.args.self.now.fine c.requires.actions_bound) (record { low = _; moved = _; moves = c.move_list-low.ensures; new = refl; words = c.put.ensures }))
+returns-clause-keeps c = wrote (c.put.auto.list ∙ length-set _ _ _ ∙ c.move_list-low.auto.list) (rw c.from.ensures (closed_pool c.args.self.now.fine (room_action c.args.self.now.fine c.requires.actions_bound) (record { low = _; moved = _; moves = c.move_list-low.ensures; new = refl; words = c.put.ensures })))

@@ -14,6 +14,6 @@ returns c = record {
   keeps = c.close.ensures.keeps;
   ends = λ F n e. record {
     keeps = c.close.ensures.keeps;
-    ends = closed_ends c.args.self.now.fine (sym c.if-is_some.ensures) c.if-self-ge-MAX_ACTIONS.false c.requires.ready c.requires.up_bound c.close.ensures.closed F n e;
+    ends = closed_ends c.args.up c.args.self.now.fine (sym c.if-is_some.ensures) c.if-self-ge-MAX_ACTIONS.false c.requires c.close.ensures.closed F n e;
   };
 }

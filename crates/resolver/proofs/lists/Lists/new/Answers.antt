@@ -9,9 +9,9 @@ count_lists-count-requires c = long_slice c.requires
 
 pub invariant_of-result : goal.invariant_of-result
 invariant_of-result c = record {
-  bytes = λ i. omega (arith, c.type_inv.file i);
-  ready = record { layout = c.layout_of.ensures; accepted = c.requires.accepted };
-  short = accepted_short c.args.file.now c.requires.accepted;
+  bytes = rw c.new-script.ensures.bytes (λ i. omega (arith, c.type_inv.file i));
+  ready = rw c.new-script.ensures.bytes (record { layout = c.new-script.ensures.layout; accepted = c.requires.accepted });
+  short = rw c.new-script.ensures.bytes (accepted_short c.args.file.now c.requires.accepted);
   counted = c.count_lists-count.ensures;
-  stands = stands c.requires (λ i. omega (arith, c.type_inv.file i));
+  stands = rw c.new-script.ensures.bytes (stands c.requires (λ i. omega (arith, c.type_inv.file i)));
 }
