@@ -787,7 +787,5 @@ fn gen_function(
     let outer = context.builder.begin_function();
     let idle = no_loop();
     gen_statements(&body, context, scratch, idle);
-    context
-        .builder
-        .end_function(outer, number as u32, up);
+    context.builder.end_function(outer, number as u32, up);
 }
