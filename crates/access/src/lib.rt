@@ -137,7 +137,7 @@ impl Access {
     }
 
     // A construction and a call have other actions, and a direct value goes with an object in the one and with a variable in the other. That the number of
-    // arguments has 16 bits keeps the sums below from wrapping.
+    // arguments has 16 bits keeps the sums below from wrapping. A u16 would be cast from the u32 of `width`, and back in each sum.
     pub fn call_new(self, builder: &mut CodeBuilder, n: u32)
         requires { n < 65536 }
         ensures { (F : List ℕ) → Runs F (call_new n (access_of self)) builder.old tt builder.new }

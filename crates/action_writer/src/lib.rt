@@ -19,7 +19,7 @@ use resolver::passes::Tables;
 use slice_words::MAX_ENTRIES;
 use zeros::clear_bytes;
 
-// The code of End, which the top list ends in: a byte of the format, and no place in a table.
+// The code of End, the action in which the format has the top list end.
 const END: u8 = 0;
 
 // The top list's body and End.

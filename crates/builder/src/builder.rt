@@ -1,7 +1,7 @@
 // Actions, pushes, marks and the tracked stack size (`builder.rs`).
 ghost use Rattle.codegen_state.specs.Does.{Fine, Fine-prop};
 
-use crate::entries::{grow, grow_marked, refused_with, value_entry};
+use crate::entries::{grow, refused_with, value_entry};
 use codegen_state::{BuilderState, Stop};
 use pcode::{Label, Op, PushValue, row_of};
 use slice_words::{Entry, LABELS_AT, MAX_ACTIONS, MAX_VALUES, code, entry_at};
@@ -15,7 +15,7 @@ pub struct CodeBuilder<'a> {
 }
 
 impl CodeBuilder<'_> {
-    ghost use Rattle.std.specs.Prelude.{List, ℕ, ◌+◌, ◌≤◌, ◌≡◌, T};
+    ghost use Rattle.std.specs.Prelude.{List, ℕ, ◌+◌, ◌<◌, ◌≤◌, ◌≡◌, T, get_or};
     ghost use Rattle.pcode.specs.Pcode.{Action, Delta, moved, op, StoreRegister, GotoFrame, GotoFrame2, GotoLabel};
     ghost use Rattle.lowering.specs.Builder.{action_with_stack_delta, plain_action, assume_stack_delta, mark_or, mark_label, mark_default, ends_in_push, truncate_stack, refuse};
     ghost use Rattle.lowering.specs.Builder as steps;
@@ -25,6 +25,7 @@ impl CodeBuilder<'_> {
     ghost use Rattle.codegen_state.specs.Stop.{number_of};
     ghost use Rattle.codegen_state.specs.View.{gather, open_of, value_in, named};
     ghost use Rattle.codegen_state.specs.Does.{Says};
+    ghost use Rattle.builder.specs.Entries.{Marked};
     ghost use Rattle.builder.specs.Runs.{Keeps, Runs, Emits};
 
     // Nothing is done any more; an earlier refusal stays.
@@ -37,7 +38,7 @@ impl CodeBuilder<'_> {
     }
 
     // An action of a code and its first word, after which the stack has this size. The two are words of the slice, which programs in other languages read as
-    // numbers. Here and below `Keeps` holds whatever the words are, and `Runs` where they say something.
+    // numbers. `Keeps` is of the builder before and after, which no type holds; it holds whatever the words are, and `Runs` where they say something.
     fn emit(&mut self, code: u32, first: u32, size: u32)
         requires entry { Emits code first }
         requires size_bound { size ≤ self.old.state.size + 1 }
@@ -52,14 +53,12 @@ impl CodeBuilder<'_> {
             self.state.refused = Some(Stop::TooMany);
             return;
         }
-        let list = &mut *self.list;
-        let state = &mut self.state;
         let entry = Entry {
             code,
             first,
             second: 0,
         };
-        grow(list, state, entry, 1, 0, 0, size);
+        grow(self.list, &mut self.state, entry, 1, 0, 0, size);
     }
 
     pub fn action(&mut self, o: Op)
@@ -144,22 +143,18 @@ impl CodeBuilder<'_> {
         let x = value_entry(v);
         let size = self.state.size + 1;
         if self.joins() {
-            let list = &mut *self.list;
-            let state = &mut self.state;
             let later = Entry {
                 code: x.code + (code::LATER_VALUE - code::FIRST_VALUE),
                 ..x
             };
-            grow(list, state, later, 0, 1, 0, size);
+            grow(self.list, &mut self.state, later, 0, 1, 0, size);
             return;
         }
         if MAX_ACTIONS <= self.state.actions {
             self.state.refused = Some(Stop::TooMany);
             return;
         }
-        let list = &mut *self.list;
-        let state = &mut self.state;
-        grow(list, state, x, 1, 1, 0, size);
+        grow(self.list, &mut self.state, x, 1, 1, 0, size);
     }
 
     // Only ever down: after a ternary one of two values is there.
@@ -175,6 +170,25 @@ impl CodeBuilder<'_> {
         for _ in size..self.state.size {
             self.action(Op::Pop);
         }
+    }
+
+    // A mark more, and the word of its label says so: 1 and no bool, since the label's place in the slice gets its position in the end.
+    fn grow_marked(&mut self, label: u32)
+        requires label_bound { label < self.old.state.labels }
+        requires unmarked { get_or self.old.list.now (12288 + label) 0 ≡ 0 }
+        ensures keeps { Keeps self.old self.new }
+        ensures marked { Marked self.old.state self.old.list.now label self.new.state self.new.list.now }
+    {
+        let list = &mut *self.list;
+        let state = &mut self.state;
+        let size = state.size;
+        let entry = Entry {
+            code: code::MARK,
+            first: label,
+            second: 0,
+        };
+        grow(list, state, entry, 0, 0, 1, size);
+        list[LABELS_AT + label as usize] = 1;
     }
 
     // The label is marked at the list's present end; a label that is marked already gives the refusal.
@@ -193,9 +207,7 @@ impl CodeBuilder<'_> {
             self.state.refused = Some(stop);
             return;
         }
-        let list = &mut *self.list;
-        let state = &mut self.state;
-        grow_marked(list, state, l);
+        self.grow_marked(l);
     }
 
     // The marks of a script and of a Default are two steps of the definition, told apart by the refusal that they hand on.

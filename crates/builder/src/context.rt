@@ -21,7 +21,7 @@ impl CodeBuilder<'_> {
     }
 
     // A label for each Case and Default of a switch, in order, the first of them the number of labels made before.
-    // `n` is how many: with the numbers of this name in other crates it has only its type in common.
+    // `n` is how many.
     pub fn create_labels(&mut self, n: u32) -> Label
         ensures keeps { Keeps self.old self.new }
         ensures bound { result.0 ≤ 1024 }

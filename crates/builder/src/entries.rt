@@ -1,12 +1,12 @@
 // Entries of the list slice.
 ghost use Rattle.std.specs.Prelude.{◌≡◌, ◌+◌, ◌*◌, ◌<◌, ◌≤◌, length};
 ghost use Rattle.codegen_state.specs.Does.{Fine};
-ghost use Rattle.builder.specs.Entries.{put3, refused_with, Grown, Marked};
+ghost use Rattle.builder.specs.Entries.{put3, refused_with, Grown};
 ghost use Rattle.builder.specs.Values.{IsValue};
 
 use codegen_state::{BuilderState, Stop};
 use pcode::PushValue;
-use slice_words::{Entry, LABELS_AT, code};
+use slice_words::{Entry, code};
 
 // Three words in a row, as programs in other languages read an entry: its code is one of them. They are handed one by one, since `grow` alone has them together.
 pub fn put(list: &mut [u32], i: usize, code: u32, first: u32, second: u32)
@@ -29,9 +29,9 @@ pub fn refused_with(state: BuilderState, stop: Stop) -> BuilderState
     }
 }
 
-// The slice and the counts are handed apart, here and below: between the writes what a CodeBuilder has as its ghost field doesn't hold.
 // One entry more in the list under construction: so many actions, values and marks more, and this stack size. No two of the four calls add the same ones, so that
-// the numbers say it as well as an enum of the calls would.
+// the numbers say it as well as an enum of the calls would. It asks nothing of the entry and the size, and so can't promise `Fine` afterwards, as a method of
+// CodeBuilder has to: each method that calls it proves that.
 pub fn grow(
     list: &mut [u32],
     state: &mut BuilderState,
@@ -54,23 +54,6 @@ pub fn grow(
     state.marks += marks;
     state.size = size;
     put(list, state.top, entry.code, entry.first, entry.second);
-}
-
-// A mark more, and the word of its label says so: 1 and no bool, since the label's place in the slice gets its position in the end.
-pub(crate) fn grow_marked(list: &mut [u32], state: &mut BuilderState, label: u32)
-    requires fine { Fine state.old list.old }
-    requires low_lt_top { state.old.low < state.old.top }
-    requires label_bound { label < state.old.labels }
-    ensures { Marked state.old list.old label state.new list.new }
-{
-    let size = state.size;
-    let entry = Entry {
-        code: code::MARK,
-        first: label,
-        second: 0,
-    };
-    grow(list, state, entry, 0, 0, 1, size);
-    list[LABELS_AT + label as usize] = 1;
 }
 
 // The entry of the first value of a Push; a later one has a higher code. A function: neither type is of this crate.

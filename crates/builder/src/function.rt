@@ -4,7 +4,7 @@ ghost use Rattle.std.specs.Int.{from_bool};
 ghost use Rattle.pcode.specs.Pcode.{moved};
 ghost use Rattle.lowering.specs.Builder.{define_delta};
 ghost use Rattle.list_slice.specs.File.{header_in, names_function};
-ghost use Rattle.codegen_state.specs.Does.{Fine, Ready, Ends};
+ghost use Rattle.codegen_state.specs.Does.{Ready, Ends};
 ghost use Rattle.builder.specs.Entries.{begun, Closed};
 ghost use Rattle.builder.specs.Runs.{Keeps, EndsList};
 
@@ -63,30 +63,30 @@ impl CodeBuilder<'_> {
             self.state.refused = Some(Stop::TooMany);
             return;
         }
+        self.close(outer, function, up);
+    }
+
+    // The reader's `close` has the last entry alone in common: it counts no actions and sizes, and settles branches entry by entry.
+    // The list under construction joins the finished ones, and an entry in the place of its first one has the function's number.
+    fn close(&mut self, outer: Outer, function: u32, up: bool)
+        requires going { IsNone self.old.state.refused }
+        requires actions_bound { self.old.state.actions < 1024 }
+        requires ready { Ready self.old.state self.old.list.now outer.base outer.size }
+        ensures keeps { Keeps self.old self.new }
+        ensures closed { Closed self.old.state self.old.list.now outer.base outer.size function (from_bool up) self.new.state self.new.list.now }
+    {
         let list = &mut *self.list;
         let state = &mut self.state;
-        close(list, state, outer, function, up);
+        let end = state.base;
+        let low = move_list(list, state.low, state.top, end);
+        list[ENDS_AT + state.lists as usize] = low as u32;
+        state.actions += 1;
+        state.lists += 1;
+        state.size = outer.size + u32::from(up);
+        state.sizes -= outer.size;
+        state.low = low;
+        state.top = end - 1;
+        state.base = outer.base;
+        put(list, state.top, code::FUNCTION, state.lists, function);
     }
-}
-
-// The reader's `close` has the last entry alone in common: it counts no actions and sizes, and settles branches entry by entry.
-// The list under construction joins the finished ones, and an entry in the place of its first one has the function's number.
-fn close(list: &mut [u32], state: &mut BuilderState, outer: Outer, function: u32, up: bool)
-    requires fine { Fine state.old list.old }
-    requires going { IsNone state.old.refused }
-    requires actions_bound { state.old.actions < 1024 }
-    requires ready { Ready state.old list.old outer.base outer.size }
-    ensures { Closed state.old list.old outer.base outer.size function (from_bool up) state.new list.new }
-{
-    let end = state.base;
-    let low = move_list(list, state.low, state.top, end);
-    list[ENDS_AT + state.lists as usize] = low as u32;
-    state.actions += 1;
-    state.lists += 1;
-    state.size = outer.size + u32::from(up);
-    state.sizes -= outer.size;
-    state.low = low;
-    state.top = end - 1;
-    state.base = outer.base;
-    put(list, state.top, code::FUNCTION, state.lists, function);
 }

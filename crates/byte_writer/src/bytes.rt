@@ -16,8 +16,7 @@ impl Writer<'_> {
         self.at += 1;
     }
 
-    // A number in k bytes, least significant first. What other methods call k is the number of a record or a list: one argument, and no group.
-    // Not `to_le_bytes`: k may be more than the bytes of a u32, and a caller is asked no more than before.
+    // A number in k bytes, least significant first. Not `to_le_bytes`: k may be more than the bytes of a u32, and a caller is asked no more than the room for them.
     pub fn word(&mut self, k: usize, n: u32)
         requires { HasRoom self.old (word k n) }
         ensures { Writes self.old (word k n) self.new }
@@ -40,7 +39,7 @@ impl Writer<'_> {
         self.at = end;
     }
 
-    // A string of the file with its zero. The reference is the one argument, as of methods elsewhere that write other things with it.
+    // A string of the file with its zero.
     pub fn text(&mut self, reference: u32)
         requires { HasRoom self.old (zero_ended (text_at self.old.script.bytes.now self.old.script.layout reference)) }
         ensures { Writes self.old (zero_ended (text_at self.old.script.bytes.now self.old.script.layout reference)) self.new }

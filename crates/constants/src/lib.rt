@@ -7,7 +7,7 @@ ghost use Rattle.codegen_state.specs.Index.{word, mixed, rounds, hash};
 
 pub mod context;
 
-// The longest string of which all bytes are hashed: a limit of the hash, and no table's length.
+// The longest string of which all bytes are hashed; of a longer one 32 words of each end are.
 const WHOLE: usize = 4096;
 
 // Four bytes as one number, which the compiler reads at once. Elsewhere words are read of a file as u32, or off the front of bytes as an Option: here the string is
@@ -53,6 +53,7 @@ pub(crate) fn bucket(s: &[u8]) -> u32
     ensures { (result ≡ hash s.now) × (result < 2048) }
 {
     let n = s.len();
+    // The hash begins with the low 16 bits of the length, which is a number already.
     let mut h = (n % 65536) as u64;
     if n < 4 {
         let w = short_word(s);

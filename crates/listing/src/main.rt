@@ -8,7 +8,7 @@ use refusal::Refusal;
 use std::io;
 use std::io::{BufWriter, Read, Write};
 
-// So much as one byte more than a file may have is refused by its length: a limit of what is read, and no table's length.
+// One byte more than a file may have for this program, which is 65,536 (README): so much is read, and refused by its length.
 const FILE_END: usize = 65537;
 
 fn answer(file: &[u8], list: &mut [u32], output: &mut [u8]) -> Result<usize, Refusal> {

@@ -4,7 +4,7 @@ use std::io;
 use std::io::{Read, Write};
 use text_lines::{BadLine, answer_text};
 
-// Prints a line's name as a line, and below it what `answer` prints of its bytes.
+// Prints a line's name as a line, and below it what `answer` prints of its bytes. A name may have any bytes, which `write!` has no form for.
 fn put_line<W: Write, F: FnMut(&[u8], &mut W) -> io::Result<()>>(
     name: &[u8],
     bytes: Result<&[u8], BadLine>,

@@ -35,7 +35,8 @@ fn is_branch_code(code: u32) -> bool
 }
 
 impl Lists<'_> {
-    // The offset of entry e, which comes after so many actions, if it is a branch; and whether it reaches its place.
+    // The offset of entry e, which comes after so many actions, if it is a branch; and whether it reaches its place. The walks name an entry by its place and not by
+    // its words, since `Known` is said of the place, and the offset is kept by it.
     #[tactic(auto, unfolding(list_slice::specs::Words::entry_at))]
     fn resolve_entry(&self, e: usize, p: u32, places: &Places, offsets: &mut [u32; 4096]) -> bool
         requires e_bound { e < 4096 }

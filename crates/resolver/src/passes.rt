@@ -36,7 +36,8 @@ pub struct Tables {
     pub offsets: [u32; 4096],
 }
 
-// One list: its body's bytes, and whether its branches reach. A branch that doesn't is refused only if no list is too long.
+// One list: its body's bytes, and whether its branches reach. A branch that doesn't is refused only if no list is too long: until
+// then its list's bytes count, so that `near` makes no Option of them.
 #[derive(Clone, Copy)]
 pub(crate) struct Body {
     pub bytes: u32,
@@ -44,7 +45,8 @@ pub(crate) struct Body {
 }
 
 impl Lists<'_> {
-    // The number of the list at place j of the finishing order: the top list, number 0, is the last.
+    // The number of the list at place j of the finishing order: the top list, number 0, is the last. The two loops over all lists count `j`: a type of places below
+    // `count` would be made at each of their turns.
     fn number_at(&self, j: usize) -> usize
         requires { j < self.now.count }
         ensures { result ≡ number_at self.now.count j }

@@ -112,7 +112,7 @@ impl Lists<'_> {
         t
     }
 
-    // The number of strings, then the strings. `n` counts pool words here, and other things in the methods of other types.
+    // The number of the pool's strings, which is `n`, then the strings.
     fn pool_data(&self, n: u32) -> Data
         requires { n ≤ 2048 }
         ensures { result ≡ pool_data (map (text_in self.now.script.bytes.now) (take n (pool_in limits01 self.now.list.now))) }

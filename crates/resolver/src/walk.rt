@@ -10,7 +10,7 @@ use crate::lists::Lists;
 use pcode::{Label, Position};
 use slice_words::{Entry, code, entry_at};
 
-// The most bytes of a record's data, of a record, and of a body: bounds of what 16 bits count, and lengths of no table.
+// The most bytes of a record's data, of a record with its code and length, and of a body: the format counts data and bodies in 16 bits.
 const MOST_DATA: usize = 65535;
 
 const MOST_RECORD: u32 = 65538;
@@ -63,7 +63,7 @@ impl Walk {
     }
 }
 
-// A table's word, and 0 past its end, which its slice has with it.
+// Word i of a table, and 0 past its end: `i` is a label, a position or a list's number.
 pub fn word_of(table: &[u32], i: u32) -> u32
     ensures { result ≡ get_or table.now i 0 }
 {

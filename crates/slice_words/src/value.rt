@@ -1,4 +1,4 @@
-// The types of pushed values. An index from 256 on makes a long constant. They are bytes of a record and no lengths: an enum of them would be turned into a
+// The types of pushed values. An index from 256 on makes a long constant. They are bytes of a record: an enum of them would be turned into a
 // byte, or made of one, at each of its uses.
 pub const STRING: u8 = 0;
 

@@ -28,14 +28,14 @@ impl fmt::Display for BadLine {
 
 impl Error for BadLine {}
 
-// A text of so many bytes or more is not answered: a limit of what is read, and no table's length.
+// A text of so many bytes, 2 MiB, or more is not answered, but said to be too long.
 const TEXT_END: usize = 2097152;
 
-// So many bytes are lent for a line's; the slice that is made of them has its own length.
+// So many bytes are lent for a line's: 256 more than a script file may have, so that a file that is too long gets its refusal.
 const ROOM: usize = 1048832;
 
 // A text on its way into `file`: what is left of it, the bytes so far, and where the part to repeat starts.
-// The file is lent, and not a Vec: a Vec's `push` would let every step fail for want of memory.
+// The file is lent, and no Vec: a Vec's `push` gives a Result, and that it never fails here would be one more ghost field.
 #[derive(Drop)]
 struct Decoder<'a> {
     rest: &'a [u8],
@@ -100,7 +100,7 @@ fn repeat(part: &[u8], to: &mut [u8]) {
     }
 }
 
-// What each of the three steps promises is the one record `ReadsOn`.
+// `ReadsOn`, which each of the three steps promises, is of the decoder before and after, which no type holds.
 impl<'a> Decoder<'a> {
     ghost use Rattle.std.specs.Prelude.{◌<◌, ◌≡◌, length};
     ghost use Rattle.text_lines.specs.Decoding.{ReadsOn};
@@ -193,7 +193,8 @@ fn read_line<'a>(line: &'a [u8], file: &mut [u8]) -> (&'a [u8], Result<usize, Ba
     }
 }
 
-// Answers each line of a text.
+// Answers each line of a text. The closure is lent `out` line by line, and doesn't hold it: what is said of the text as a whole goes there too. That it can be
+// called stands in a clause, since no bound of a type parameter says it.
 fn answer_lines<W: Write, F: FnMut(&[u8], Result<&[u8], BadLine>, &mut W) -> io::Result<()>>(
     text: &[u8],
     file: &mut [u8],
@@ -210,7 +211,8 @@ fn answer_lines<W: Write, F: FnMut(&[u8], Result<&[u8], BadLine>, &mut W) -> io:
     Ok(())
 }
 
-// Answers each line `NAME BYTES` of the text that a reader gives.
+// Answers each line `NAME BYTES` of the text that a reader gives. The allocator is the runtime's and the reader a file or standard input: they meet in this call
+// alone.
 pub fn answer_text<
     R: Read + Drop,
     W: Write,

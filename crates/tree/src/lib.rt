@@ -264,7 +264,7 @@ impl<'a> Trees<'a> {
         self.count() as u32
     }
 
-    // The trees up to the one n places before the last. The place is each call's own, and stays with no value.
+    // The trees up to the one n places before the last.
     pub fn kid(&self, n: u32) -> Trees<'a>
         ensures script { result.script ≡ self.now.script }
         ensures kid { IsKid (file_of self.now) self.now.script.layout self.now.part n result.part }

@@ -1,8 +1,8 @@
 use mathlib.Core.Path.{refl, sym}
 use Rattle.codegen_state.proofs.Steps.{stays}
 use Rattle.codegen_state.specs.Stop.{number_of}
-use Rattle.builder.proofs.Marks.{mark_unmade, mark_again, mark_fine, mark_done, room_mark}
-use Rattle.builder.proofs.Runs.{marked_pool, counts, words}
+use Rattle.builder.proofs.Marks.{mark_unmade, mark_again, mark_done}
+use Rattle.builder.proofs.Runs.{counts}
 use Rattle.builder.proofs.builder.CodeBuilder.mark.Goals as goal
 
 pub returns-then-is_some : goal.returns-then-is_some
@@ -14,11 +14,5 @@ returns-then-self-l c = λ F. counts refl (mark_unmade c.args.label.0 c.args.sel
 pub returns-then-self-l-ne0 : goal.returns-then-self-l-ne0
 returns-then-self-l-ne0 c = λ F. counts refl (mark_again c.args.label.0 c.args.self.now.fine c.if-self-l.false F c.args.stop (sym c.if-is_some.ensures) c.if-self-l-ne0.true)
 
-pub grow_marked-requires-clause-low_lt_top : goal.grow_marked-requires-clause-low_lt_top
-grow_marked-requires-clause-low_lt_top c = room_mark c.args.label.0 c.args.self.now.fine c.if-self-l.false c.if-self-l-ne0.false
-
-pub invariant_of-self-2 : goal.invariant_of-self-2
-invariant_of-self-2 c = record { fine = mark_fine c.args.label.0 c.args.self.now.fine c.if-self-l.false c.if-self-l-ne0.false c.grow_marked.ensures }
-
 pub returns : goal.returns
-returns c = λ F. words c.grow_marked.auto.list (marked_pool c.args.self.now.fine (room_mark c.args.label.0 c.args.self.now.fine c.if-self-l.false c.if-self-l-ne0.false) c.if-self-l.false c.grow_marked.ensures) (mark_done c.args.label.0 c.args.self.now.fine c.if-self-l.false c.if-self-l-ne0.false c.grow_marked.ensures F (number_of c.args.stop) (sym c.if-is_some.ensures))
+returns c = λ F. record { keeps = c.grow_marked.ensures.keeps; does = mark_done c.args.label.0 c.args.self.now.fine c.if-self-l.false c.if-self-l-ne0.false c.grow_marked.ensures.marked F (number_of c.args.stop) (sym c.if-is_some.ensures) }
