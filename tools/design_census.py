@@ -515,7 +515,7 @@ def point4():
 # ---------------------------------------------------------------- point 5
 
 def plain_type(k):
-    return re.sub(r'^&(?:mut )?', '&', k)
+    return re.sub(r"^&(?:'\w+ )?(?:mut )?", '&', k)
 
 
 def facts_of(f):
@@ -656,8 +656,8 @@ def point7():
             found.append((place(f), f'parameter {", ".join(bools)} chooses the step'))
         for m in re.finditer(r'match ([\w.\[\]]+) \{\n(.*?)^ +\}', f.body, re.M | re.S):
             arms = re.findall(r'=> ([^\n]*)', m.group(2))
-            calls = [a for a in arms if re.match(r'\w+\(', a)]
-            names = set(re.match(r'\w+', a).group(0) for a in calls)
+            calls = [a for a in arms if re.match(r'(?:\w+(?:\.|::))*[a-z]\w*\(', a)]
+            names = set(re.match(r'(?:\w+(?:\.|::))*(\w+)', a).group(1) for a in calls)
             if len(names) >= 3 or len(calls) >= 3 and len(arms) >= 4:
                 found.append((place(f), f'match {m.group(1)}: {len(calls)} arms call {len(names)} functions'))
         chain = re.findall(r'^ +if (\w+) (?:==|<) (0x[0-9a-f]+|\d+) \{\n +return (\w+)\(', f.body, re.M)

@@ -22,6 +22,7 @@ use Rattle.action_reader.specs.Layout.{layout}
 use Rattle.action_reader.specs.Lists.{Given, Lost, positions_of}
 use Rattle.action_reader.proofs.Slice.{moves, reads_code, reads_first, reads_second}
 
+-- The library has no lemma of this shape: the part of a slice from a on, as `[a..]` gives it.
 pub rest_of : {xs ys : List ℕ} → ys ≡ xs → (a : ℕ) → take (length ys - a) (drop a ys) ≡ drop a xs
 rest_of {xs} {ys} e a = rw e (take_all (length xs - a) (drop a xs) (rw (length-drop a xs) (omega arith)))
 

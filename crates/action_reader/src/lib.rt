@@ -21,7 +21,8 @@ mod step;
 mod targets;
 mod walk;
 
-// How many bytes were read. The caller's slice may be longer than a list needs, so no type says that it is long enough, and what writes it requires it.
+// How many bytes were read. The caller's slice may be longer than a list needs, and what writes it requires that it is long enough. `first_chunk_mut` would give a type that says it, and
+// each write through `put` would take it back to a slice.
 pub fn read(bytes: &[u8], list: &mut [u32]) -> Result<usize, Refusal>
     ensures { Reads limits01 bytes.now (length list.old) (refusal_of result) (length_of result) list.new }
 {

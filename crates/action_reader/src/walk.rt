@@ -19,9 +19,9 @@ pub struct Span {
     pub first: usize,
 }
 
-// The present list is read from `at` on. Its entries stand from entry `top` on, its positions in the table before `places`. Finished lists stand below entry `low`: the entries are
-// one slice, which the caller lends, so its areas are positions. `outer` has the spans of the lists around, as many as `depth` says. The list slice is no field, and no ghost field says
-// what its words stand for: after a refusal they stand for nothing.
+// The present list is read from `at` on. Its entries stand from entry `top` on, its positions in the table behind those of the lists around. Finished lists stand below entry `low`: the
+// entries are one slice, which the caller lends, so its areas are positions. `outer` has the spans of the lists around. The list slice is no field: what a step makes of the walk is one
+// equation (`advanced`, `single_after`), in which the words would stand too. No ghost field says what its words stand for: after a refusal they stand for nothing.
 #[derive(Drop)]
 pub struct Walk<'a> {
     pub bytes: &'a [u8],

@@ -156,7 +156,8 @@ fn generate(accepted: &Accepted, words: &mut [u32]) -> Result<(), Refusal>
 }
 
 // In words beside the list slice. After a refusal the slice stays as it is. The slice is the C caller's, of any length: that it is long enough and cleared holds
-// from `script_to_actions` on, in these two calls, and no type of its own is made for them.
+// from `script_to_actions` on, in these two calls. `first_chunk_mut` would give a type that says that it is long enough, of its first 16,384 words alone: `lower` works in
+// more where they are lent, and both say what all words of the slice are.
 fn lower_beside(accepted: &Accepted, list: &mut [u32]) -> Result<(), Refusal>
     requires in_bounds { 16384 ≤ length list.old }
     requires list_value { list.old ≡ zeros_of (length list.old) }

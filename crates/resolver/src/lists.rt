@@ -24,8 +24,8 @@ pub struct Lists<'a> {
     pub ghost stands: { Stands script.bytes.now list.now } by { Prim.hlevel (props, operand_prop, all_fine_prop, truth_prop) },
 }
 
-// How many lists there are: the last end that is not 0 is the top list's. A slice with no end has 0 lists, which is their number. The slice is lent by
-// its address and length, so that no type says how long it is.
+// How many lists there are: the last end that is not 0 is the top list's. A slice with no end has 0 lists, which is their number. `first_chunk` would
+// give a type that says that the slice is long enough, of its first 16,384 words alone: what is known of a filled slice (`Lowered`) is of all its words.
 pub fn count_lists(list: &[u32]) -> usize
     requires { 16384 ≤ length list.now }
     ensures { result ≡ count_of list.now }

@@ -105,8 +105,8 @@ fn each(
     }
 }
 
-// The step of a row is an enum, and no closure: these functions call each other in a ring, where a call through a closure gets no proof, and a function may not
-// make one and hand it out.
+// The step of a row is an enum, and no closure: in a ring a closure has to have its clauses in the source, so that each of the eight would write out the walk, its
+// measure and the meaning that its name stands for (`rows::Each`).
 #[cycle(ring)]
 fn one(
     t: &Trees,
