@@ -7,9 +7,9 @@ use lib.ListN.{length, get_or, take, drop}
 use Rattle.std.proofs.lemmas.List.{get_or-take, get_or-drop}
 use lib.Seq.{drop-drop}
 use Rattle.std.specs.Simd.{first_chunks}
-use Rattle.slice_words.specs.declared.Entry.{Entry}
 use Rattle.slice_words.specs.Words.{entry_in}
 
+-- The library has no lemma of a place among `first_chunks`: this gives a chunk, and the next a word of it.
 chunk_at : (k e : ℕ) (w : List ℕ) → e < k → get_or (first_chunks 3 k w) e [] ≡ take 3 (drop (e * 3) w)
 chunk_at zero e w h = absurd (omega arith)
 chunk_at (suc k) zero w h = refl
