@@ -49,11 +49,11 @@ pub fn entry_at(list: &[u32], e: usize) -> Entry
     requires { e * 3 + 2 < length list.now }
     ensures { result ≡ entry_in list.now e }
 {
-    let at = e * 3;
+    let [code, first, second] = list.as_chunks::<3>().0[e];
     Entry {
-        code: list[at],
-        first: list[at + 1],
-        second: list[at + 2],
+        code,
+        first,
+        second,
     }
 }
 
