@@ -16,7 +16,8 @@ impl Writer<'_> {
         self.at += 1;
     }
 
-    // A number in k bytes, least significant first. Not `to_le_bytes`: k may be more than the bytes of a u32, and a caller is asked no more than the room for them.
+    // A number in k bytes, least significant first. Each method has one argument beside `self`, of another meaning in each, so that there is nothing to put together.
+    // Not `to_le_bytes`: k may be more than the bytes of a u32, and a caller is asked no more than the room for them.
     pub fn word(&mut self, k: usize, n: u32)
         requires { HasRoom self.old (word k n) }
         ensures { Writes self.old (word k n) self.new }
@@ -39,7 +40,7 @@ impl Writer<'_> {
         self.at = end;
     }
 
-    // A string of the file with its zero.
+    // A string of the file with its zero. The reference is one argument, of another meaning than in other methods, so that there is nothing to put together.
     pub fn text(&mut self, reference: u32)
         requires { HasRoom self.old (zero_ended (text_at self.old.script.bytes.now self.old.script.layout reference)) }
         ensures { Writes self.old (zero_ended (text_at self.old.script.bytes.now self.old.script.layout reference)) self.new }

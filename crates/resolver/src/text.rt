@@ -112,7 +112,8 @@ impl Lists<'_> {
         t
     }
 
-    // The number of the pool's strings, which is `n`, then the strings.
+    // The number of the pool's strings, which is `n`, then the strings. The number is one argument, and counts other things in other methods: there is nothing to
+    // put together.
     fn pool_data(&self, n: u32) -> Data
         requires { n ≤ 2048 }
         ensures { result ≡ pool_data (map (text_in self.now.script.bytes.now) (take n (pool_in limits01 self.now.list.now))) }

@@ -63,7 +63,8 @@ impl Walk {
     }
 }
 
-// Word i of a table, and 0 past its end: `i` is a label, a position or a list's number.
+// Word i of a table, and 0 past its end: `i` is a label, a position or a list's number. The tables are arrays of several lengths, which their types say, so that
+// no length goes beside them.
 pub fn word_of(table: &[u32], i: u32) -> u32
     ensures { result ≡ get_or table.now i 0 }
 {
