@@ -1,7 +1,7 @@
 #![tactic(auto)]
 
 ghost use Rattle.std.specs.Prelude.{◌≡◌, ◌∷◌};
-ghost use Rattle.special_properties.specs.SpecialProperties.{get_special_property, same_spelling, same_bytes, null, undefined};
+ghost use Rattle.special_properties.specs.SpecialProperties.{get_special_property, same_bytes, null, undefined};
 
 // The properties' names by number, without the underscore that each begins with.
 static NAMES: [&[u8]; 22] = [
@@ -29,21 +29,22 @@ static NAMES: [&[u8]; 22] = [
     b"ymouse",
 ];
 
-// ASCII case ignored.
-fn same_spelling(a: &[u8], b: &[u8]) -> bool
-    ensures { result ≡ same_spelling a.now b.now }
-{
-    a.eq_ignore_ascii_case(b)
-}
-
-// The number of the property whose name is an underscore and these letters.
+// The number of the property whose name is an underscore and these letters: the first name that agrees, ASCII case ignored.
 fn number_of(letters: &[u8]) -> Option<u32>
     ensures { result ≡ get_special_property (95 ∷ letters.now) }
 {
-    let i = NAMES
-        .iter()
-        .position(|property| same_spelling(letters, property))?;
-    Some(i as u32)
+    'names: for (i, property) in NAMES.iter().enumerate() {
+        if property.len() != letters.len() {
+            continue 'names;
+        }
+        for (k, letter) in letters.iter().enumerate() {
+            if letter.to_ascii_lowercase() != property[k].to_ascii_lowercase() {
+                continue 'names;
+            }
+        }
+        return Some(i as u32);
+    }
+    None
 }
 
 // The number of the first property whose name agrees, ASCII case ignored.

@@ -1,24 +1,27 @@
-use Rattle.std.proofs.Common.{rules, tests, ap, refl, sym, ◌∙◌}
-use mathlib.Core.List.{◌∷◌, map}
-use Rattle.std.specs.Slice.Iter.{iter_rest}
-use Rattle.std.proofs.lemmas.Iterator.{YieldsList-from_slice}
-use Rattle.std.proofs.lemmas.Iterator.Search.{position_from_yields_List}
-use Rattle.special_properties.specs.SpecialProperties.{names, same_spelling}
-use Rattle.special_properties.proofs.Search.{found}
+use mathlib.Core.Path.{refl}
+use native.Mathlib.Omega.{arith}
+use Rattle.special_properties.specs.SpecialProperties.{names}
+use Rattle.special_properties.proofs.Search.{lengths_differ, agree_none, agree_more, agree_not, agree_all, passed_none, passed_more, passed_found, passed_all}
 use Rattle.special_properties.proofs.number_of.Goals as goal
 
-pub returns-in_err-i : goal.returns-in_err-i
+pub names-init : goal.names-init
 unfolding names
-returns-in_err-i c =
-    let s = c.args.letters.now in
-    let ps = iter_rest c.iter.result in
-    let f = position_from_yields_List (λ p. same_spelling s p.now) _ _ _ c.position.ensures.ran (YieldsList-from_slice ps refl) (λ x b q k. search (rules, tests)) in
-    c.from_residual.ensures ∙ sym c.in_err-i.was ∙ found s ps _ f (ap (map (λ p. 95 ∷ p.now)) c.iter.ensures.rest)
+names-init c = passed_none refl
+
+pub names-preserved-then-property-letters : goal.names-preserved-then-property-letters
+names-preserved-then-property-letters c = passed_more c.names.invariant (omega arith) (lengths_differ _ _ (λ e. omega arith))
+
+pub loop-k-init : goal.loop-k-init
+loop-k-init c = agree_none (omega arith)
+
+pub names-preserved : goal.names-preserved
+names-preserved c = passed_more c.names.invariant (omega arith) (agree_not c.loop-k.invariant (omega arith) (λ e. omega arith))
+
+pub loop-k-preserved : goal.loop-k-preserved
+loop-k-preserved c = agree_more c.loop-k.invariant (omega arith) (cc)
+
+pub returns-in-names : goal.returns-in-names
+returns-in-names c = passed_found c.names.invariant (omega arith) (agree_all c.loop-k.invariant (omega arith))
 
 pub returns : goal.returns
-unfolding names
-returns c =
-    let s = c.args.letters.now in
-    let ps = iter_rest c.iter.result in
-    let f = position_from_yields_List (λ p. same_spelling s p.now) _ _ _ c.position.ensures.ran (YieldsList-from_slice ps refl) (λ x b q k. search (rules, tests)) in
-    sym c.in_ok-i.was ∙ found s ps _ f (ap (map (λ p. 95 ∷ p.now)) c.iter.ensures.rest)
+returns c = passed_all c.names.invariant (omega arith)
