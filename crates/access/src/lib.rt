@@ -136,27 +136,31 @@ impl Access {
         }
     }
 
-    // A construction and a call have other actions, and a direct value goes with an object in the one and with a variable in the other. That the number of
-    // arguments has 16 bits keeps the sums below from wrapping. A u16 would be cast from the u32 of `width`, and back in each sum.
+    // A construction and a call have other actions, and a direct value goes with an object in the one and with a variable in the other. A sum that doesn't fit a
+    // word stays at the largest: the stack is never that high, and falls to 0 either way.
     pub fn call_new(self, builder: &mut CodeBuilder, n: u32)
-        requires { n < 65536 }
         ensures { (F : List ℕ) → Runs F (call_new n (access_of self)) builder.old tt builder.new }
     {
         match self {
-            Access::Variable => builder.action_down(Op::NewObject, n + 1),
-            Access::Object | Access::Direct => builder.action_down(Op::NewMethod, n + 2),
+            Access::Variable => builder.action_down(Op::NewObject, n.saturating_add(1)),
+            Access::Object | Access::Direct => builder.action_down(
+                Op::NewMethod,
+                n.saturating_add(2),
+            ),
             Access::SpecialProperty => builder.refuse(Stop::NotAssignable),
             Access::Register(r) => call_register(builder, Op::NewMethod, n, r),
         }
     }
 
     pub fn call(self, builder: &mut CodeBuilder, n: u32)
-        requires { n < 65536 }
         ensures { (F : List ℕ) → Runs F (call n (access_of self)) builder.old tt builder.new }
     {
         match self {
-            Access::Variable | Access::Direct => builder.action_down(Op::CallFunction, n + 1),
-            Access::Object => builder.action_down(Op::CallMethod, n + 2),
+            Access::Variable | Access::Direct => builder.action_down(
+                Op::CallFunction,
+                n.saturating_add(1),
+            ),
+            Access::Object => builder.action_down(Op::CallMethod, n.saturating_add(2)),
             Access::SpecialProperty => builder.refuse(Stop::NotAssignable),
             Access::Register(r) => call_register(builder, Op::CallMethod, n, r),
         }
@@ -174,10 +178,9 @@ fn direct(context: &mut ScriptContext, v: PushValue) -> Access
 
 // A register holds the object itself: it is called without a name.
 fn call_register(builder: &mut CodeBuilder, o: Op, n: u32, register: u8)
-    requires { n < 65536 }
     ensures { (F : List ℕ) → Runs F (call_register o n register) builder.old tt builder.new }
 {
     builder.push(PushValue::Register(register));
     builder.push(PushValue::Undefined);
-    builder.action_down(o, n + 2);
+    builder.action_down(o, n.saturating_add(2));
 }

@@ -30,7 +30,8 @@ impl CodeBuilder<'_> {
 
     // Nothing is done any more; an earlier refusal stays.
     pub fn refuse(&mut self, stop: Stop)
-        ensures { (F : List ℕ) → Runs F (refuse {A = Unit {0}} (number_of stop)) self.old tt self.new }
+        ensures runs { (F : List ℕ) → Runs F (refuse {A = Unit {0}} (number_of stop)) self.old tt self.new }
+        ensures list { self.new.list.now ≡ self.old.list.now }
     {
         if self.state.refused.is_none() {
             self.state = refused_with(self.state, stop);
@@ -159,7 +160,8 @@ impl CodeBuilder<'_> {
 
     // Only ever down: after a ternary one of two values is there.
     pub fn assume_stack_delta(&mut self, down: u32)
-        ensures { (F : List ℕ) → Runs F (assume_stack_delta (Delta.down down)) self.old tt self.new }
+        ensures runs { (F : List ℕ) → Runs F (assume_stack_delta (Delta.down down)) self.old tt self.new }
+        ensures list { self.new.list.now ≡ self.old.list.now }
     {
         self.state.size = self.state.size.saturating_sub(down);
     }

@@ -15,7 +15,9 @@ use slice_words::MAX_LABELS;
 impl CodeBuilder<'_> {
     // The label is the number of labels made before. One label is a step of the definition, and so a method, though `create_labels` makes it.
     pub fn create_label(&mut self) -> Label
-        ensures { (F : List ℕ) → Runs F create_label self.old result.0 self.new }
+        ensures runs { (F : List ℕ) → Runs F create_label self.old result.0 self.new }
+        ensures list { self.new.list.now ≡ self.old.list.now }
+        ensures label { result.0 ≡ self.old.state.labels }
     {
         self.create_labels(1)
     }
@@ -28,6 +30,8 @@ impl CodeBuilder<'_> {
         ensures runs { (F : List ℕ) (ms : Forest Meaning) → labels_of_forest ms ≡ n →
             Runs F (with_labels ms) self.old (elements_from result.0 ms) self.new }
         ensures one { n ≡ 1 → (F : List ℕ) → Runs F create_label self.old result.0 self.new }
+        ensures list { self.new.list.now ≡ self.old.list.now }
+        ensures label { result.0 ≡ self.old.state.labels }
     {
         let first = Label(self.state.labels);
         if self.state.refused.is_some() {

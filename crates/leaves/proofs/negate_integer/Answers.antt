@@ -9,4 +9,4 @@ returns-in-Some c = λ F.
     rw (not_least c.args.n c.ranges.n h.0, ← negative_word c.args.n c.ranges.n, ← h.1) (rw (to_z-of_z w32 c.in-Some.m (rw h.1 h.0)) at (c.push.ensures.runs F tt))
 
 pub returns-in-None : goal.returns-in-None
-returns-in-None c = λ F. rw (is_least c.args.n c.ranges.n (rw (to_z-of_z w32 c.args.n c.ranges.n) at c.in-None.ensures)) (c.refuse.ensures F)
+returns-in-None c = λ F. rw (is_least c.args.n c.ranges.n (rw (to_z-of_z w32 c.args.n c.ranges.n) at c.in-None.ensures)) (c.refuse.ensures.runs F)

@@ -189,7 +189,7 @@ pub gen_binary_op-invariant_of-context-in-Assign : goal.gen_binary_op-invariant_
 gen_binary_op-invariant_of-context-in-Assign t c = record { laid_out = c.gen_expr.new.context.laid_out; indexed = index_stays (c.assign_value-in-Assign.ensures (file_of c.args.t.now)).keeps.pool c.gen_expr.new.context.indexed }
 
 pub gen_binary_op-invariant_of-context-in-LogicalAnd : goal.gen_binary_op-invariant_of-context-in-LogicalAnd
-gen_binary_op-invariant_of-context-in-LogicalAnd t c = record { laid_out = c.args.context.now.laid_out; indexed = index_stays (c.create_label-end.ensures (file_of c.args.t.now)).keeps.pool c.args.context.now.indexed }
+gen_binary_op-invariant_of-context-in-LogicalAnd t c = record { laid_out = c.args.context.now.laid_out; indexed = index_stays (c.create_label-end.ensures.runs (file_of c.args.t.now)).keeps.pool c.args.context.now.indexed }
 
 pub gen_binary_op-invariant_of-context-in-LogicalAnd-2 : goal.gen_binary_op-invariant_of-context-in-LogicalAnd-2
 gen_binary_op-invariant_of-context-in-LogicalAnd-2 t c = record { laid_out = c.gen_expr-in-LogicalAnd.new.context.laid_out; indexed = index_stays (keeps_then (c.action-in-LogicalAnd.ensures (file_of c.args.t.now)).keeps (keeps_then (c.action-in-LogicalAnd-2.ensures (file_of c.args.t.now)).keeps (keeps_then (c.branch-context.ensures (file_of c.args.t.now)).keeps (c.action-in-LogicalAnd-3.ensures (file_of c.args.t.now)).keeps))).pool c.gen_expr-in-LogicalAnd.new.context.indexed }
@@ -198,7 +198,7 @@ pub gen_binary_op-invariant_of-context-in-LogicalAnd-3 : goal.gen_binary_op-inva
 gen_binary_op-invariant_of-context-in-LogicalAnd-3 t c = record { laid_out = c.gen_expr-in-LogicalAnd-2.new.context.laid_out; indexed = index_stays (c.mark_label.ensures (file_of c.args.t.now)).keeps.pool c.gen_expr-in-LogicalAnd-2.new.context.indexed }
 
 pub gen_binary_op-invariant_of-context-in-LogicalOr : goal.gen_binary_op-invariant_of-context-in-LogicalOr
-gen_binary_op-invariant_of-context-in-LogicalOr t c = record { laid_out = c.args.context.now.laid_out; indexed = index_stays (c.create_label-end-in-LogicalOr.ensures (file_of c.args.t.now)).keeps.pool c.args.context.now.indexed }
+gen_binary_op-invariant_of-context-in-LogicalOr t c = record { laid_out = c.args.context.now.laid_out; indexed = index_stays (c.create_label-end-in-LogicalOr.ensures.runs (file_of c.args.t.now)).keeps.pool c.args.context.now.indexed }
 
 pub gen_binary_op-invariant_of-context-in-LogicalOr-2 : goal.gen_binary_op-invariant_of-context-in-LogicalOr-2
 gen_binary_op-invariant_of-context-in-LogicalOr-2 t c = record { laid_out = c.gen_expr-in-LogicalOr.new.context.laid_out; indexed = index_stays (keeps_then (c.action-in-LogicalOr.ensures (file_of c.args.t.now)).keeps (keeps_then (c.branch-context-in-LogicalOr.ensures (file_of c.args.t.now)).keeps (c.action-in-LogicalOr-2.ensures (file_of c.args.t.now)).keeps)).pool c.gen_expr-in-LogicalOr.new.context.indexed }
@@ -216,10 +216,10 @@ pub gen_binary_op-returns-in-Assign : goal.gen_binary_op-returns-in-Assign
 gen_binary_op-returns-in-Assign t c = walks (built {d = c.gen_expr.new.context} (c.assign_value-in-Assign.ensures (file_of c.args.t.now)).keeps.list (walked c.gen_expr.ensures (walked c.for_expr-access-in-Assign.ensures start))) (rw (← c.from.ensures, c.in-Assign.is) (assign_arm c.args.t.now.script.layout c.args.t.now.part c.args.discard c.kid-left.ensures.kid (rw c.kid-left.ensures.script at c.for_expr-access-in-Assign.ensures.does) c.gen_expr.ensures.does (c.assign_value-in-Assign.ensures (file_of c.args.t.now)).does))
 
 pub gen_binary_op-returns-in-LogicalAnd : goal.gen_binary_op-returns-in-LogicalAnd
-gen_binary_op-returns-in-LogicalAnd t c = walks (built {d = c.gen_expr-in-LogicalAnd-2.new.context} (c.mark_label.ensures (file_of c.args.t.now)).keeps.list (walked c.gen_expr-in-LogicalAnd-2.ensures (built {d = c.gen_expr-in-LogicalAnd.new.context} (keeps_then (c.action-in-LogicalAnd.ensures (file_of c.args.t.now)).keeps (keeps_then (c.action-in-LogicalAnd-2.ensures (file_of c.args.t.now)).keeps (keeps_then (c.branch-context.ensures (file_of c.args.t.now)).keeps (c.action-in-LogicalAnd-3.ensures (file_of c.args.t.now)).keeps))).list (walked c.gen_expr-in-LogicalAnd.ensures (built {d = c.args.context.now} (c.create_label-end.ensures (file_of c.args.t.now)).keeps.list start))))) (rw (← c.from.ensures, c.in-LogicalAnd.is) (and_arm c.args.t.now.script.layout c.args.t.now.part c.kid-left.ensures.kid c.args.discard (c.create_label-end.ensures (file_of c.args.t.now)).does (rw c.kid-left.ensures.script at c.gen_expr-in-LogicalAnd.ensures.does) (c.action-in-LogicalAnd.ensures (file_of c.args.t.now)).does (c.action-in-LogicalAnd-2.ensures (file_of c.args.t.now)).does (c.branch-context.ensures (file_of c.args.t.now)).does (c.action-in-LogicalAnd-3.ensures (file_of c.args.t.now)).does c.gen_expr-in-LogicalAnd-2.ensures.does (c.mark_label.ensures (file_of c.args.t.now)).does))
+gen_binary_op-returns-in-LogicalAnd t c = walks (built {d = c.gen_expr-in-LogicalAnd-2.new.context} (c.mark_label.ensures (file_of c.args.t.now)).keeps.list (walked c.gen_expr-in-LogicalAnd-2.ensures (built {d = c.gen_expr-in-LogicalAnd.new.context} (keeps_then (c.action-in-LogicalAnd.ensures (file_of c.args.t.now)).keeps (keeps_then (c.action-in-LogicalAnd-2.ensures (file_of c.args.t.now)).keeps (keeps_then (c.branch-context.ensures (file_of c.args.t.now)).keeps (c.action-in-LogicalAnd-3.ensures (file_of c.args.t.now)).keeps))).list (walked c.gen_expr-in-LogicalAnd.ensures (built {d = c.args.context.now} (c.create_label-end.ensures.runs (file_of c.args.t.now)).keeps.list start))))) (rw (← c.from.ensures, c.in-LogicalAnd.is) (and_arm c.args.t.now.script.layout c.args.t.now.part c.kid-left.ensures.kid c.args.discard (c.create_label-end.ensures.runs (file_of c.args.t.now)).does (rw c.kid-left.ensures.script at c.gen_expr-in-LogicalAnd.ensures.does) (c.action-in-LogicalAnd.ensures (file_of c.args.t.now)).does (c.action-in-LogicalAnd-2.ensures (file_of c.args.t.now)).does (c.branch-context.ensures (file_of c.args.t.now)).does (c.action-in-LogicalAnd-3.ensures (file_of c.args.t.now)).does c.gen_expr-in-LogicalAnd-2.ensures.does (c.mark_label.ensures (file_of c.args.t.now)).does))
 
 pub gen_binary_op-returns-in-LogicalOr : goal.gen_binary_op-returns-in-LogicalOr
-gen_binary_op-returns-in-LogicalOr t c = walks (built {d = c.gen_expr-in-LogicalOr-2.new.context} (c.mark_label-in-LogicalOr.ensures (file_of c.args.t.now)).keeps.list (walked c.gen_expr-in-LogicalOr-2.ensures (built {d = c.gen_expr-in-LogicalOr.new.context} (keeps_then (c.action-in-LogicalOr.ensures (file_of c.args.t.now)).keeps (keeps_then (c.branch-context-in-LogicalOr.ensures (file_of c.args.t.now)).keeps (c.action-in-LogicalOr-2.ensures (file_of c.args.t.now)).keeps)).list (walked c.gen_expr-in-LogicalOr.ensures (built {d = c.args.context.now} (c.create_label-end-in-LogicalOr.ensures (file_of c.args.t.now)).keeps.list start))))) (rw (← c.from.ensures, c.in-LogicalOr.is) (or_arm c.args.t.now.script.layout c.args.t.now.part c.kid-left.ensures.kid c.args.discard (c.create_label-end-in-LogicalOr.ensures (file_of c.args.t.now)).does (rw c.kid-left.ensures.script at c.gen_expr-in-LogicalOr.ensures.does) (c.action-in-LogicalOr.ensures (file_of c.args.t.now)).does (c.branch-context-in-LogicalOr.ensures (file_of c.args.t.now)).does (c.action-in-LogicalOr-2.ensures (file_of c.args.t.now)).does c.gen_expr-in-LogicalOr-2.ensures.does (c.mark_label-in-LogicalOr.ensures (file_of c.args.t.now)).does))
+gen_binary_op-returns-in-LogicalOr t c = walks (built {d = c.gen_expr-in-LogicalOr-2.new.context} (c.mark_label-in-LogicalOr.ensures (file_of c.args.t.now)).keeps.list (walked c.gen_expr-in-LogicalOr-2.ensures (built {d = c.gen_expr-in-LogicalOr.new.context} (keeps_then (c.action-in-LogicalOr.ensures (file_of c.args.t.now)).keeps (keeps_then (c.branch-context-in-LogicalOr.ensures (file_of c.args.t.now)).keeps (c.action-in-LogicalOr-2.ensures (file_of c.args.t.now)).keeps)).list (walked c.gen_expr-in-LogicalOr.ensures (built {d = c.args.context.now} (c.create_label-end-in-LogicalOr.ensures.runs (file_of c.args.t.now)).keeps.list start))))) (rw (← c.from.ensures, c.in-LogicalOr.is) (or_arm c.args.t.now.script.layout c.args.t.now.part c.kid-left.ensures.kid c.args.discard (c.create_label-end-in-LogicalOr.ensures.runs (file_of c.args.t.now)).does (rw c.kid-left.ensures.script at c.gen_expr-in-LogicalOr.ensures.does) (c.action-in-LogicalOr.ensures (file_of c.args.t.now)).does (c.branch-context-in-LogicalOr.ensures (file_of c.args.t.now)).does (c.action-in-LogicalOr-2.ensures (file_of c.args.t.now)).does c.gen_expr-in-LogicalOr-2.ensures.does (c.mark_label-in-LogicalOr.ensures (file_of c.args.t.now)).does))
 
 pub gen_binary_op-returns-in-Trivial : goal.gen_binary_op-returns-in-Trivial
 gen_binary_op-returns-in-Trivial t c = walks (built {d = c.each.new.context} (c.action.ensures (file_of c.args.t.now)).keeps.list (walked c.each.ensures start)) (rw (← c.from.ensures, c.in-Trivial.is) (trivial_arm c.args.t.now.script.layout c.args.t.now.part (loop_of c.no_loop-idle.result) _ c.each.ensures.does (c.action.ensures (file_of c.args.t.now)).does))
@@ -229,12 +229,6 @@ gen_binary_op-returns-in-TrivialAssign t c = walks (built {d = c.each-in-Trivial
 
 pub gen_binary_op-returns-in-TrivialNot : goal.gen_binary_op-returns-in-TrivialNot
 gen_binary_op-returns-in-TrivialNot t c = walks (built {d = c.each-in-TrivialNot.new.context} (keeps_then (c.action-in-TrivialNot.ensures (file_of c.args.t.now)).keeps (c.action-in-TrivialNot-2.ensures (file_of c.args.t.now)).keeps).list (walked c.each-in-TrivialNot.ensures start)) (rw (← c.from.ensures, c.in-TrivialNot.is) (trivial_not_arm c.args.t.now.script.layout c.args.t.now.part (loop_of c.no_loop-idle-in-TrivialNot.result) _ c.each-in-TrivialNot.ensures.does (c.action-in-TrivialNot.ensures (file_of c.args.t.now)).does (c.action-in-TrivialNot-2.ensures (file_of c.args.t.now)).does))
-
-pub gen_call-call-requires : goal.gen_call-call-requires
-gen_call-call-requires t c = omega (arith, c.width-n.ensures, width_less (file_of c.list-es.result) c.list-es.result.part, c.list-es.ensures.list.fewer, c.args.t.now.within.known, c.args.t.now.within.sound.few, c.args.t.now.within.inside)
-
-pub gen_call-call_new-requires : goal.gen_call-call_new-requires
-gen_call-call_new-requires t c = omega (arith, c.width-n.ensures, width_less (file_of c.list-es.result) c.list-es.result.part, c.list-es.ensures.list.fewer, c.args.t.now.within.known, c.args.t.now.within.sound.few, c.args.t.now.within.inside)
 
 pub gen_call-invariant_of-context : goal.gen_call-invariant_of-context
 gen_call-invariant_of-context t c = record { laid_out = c.for_expr-access.new.context.laid_out; indexed = index_stays (c.call_new.ensures (file_of c.args.t.now)).keeps.pool c.for_expr-access.new.context.indexed }
@@ -408,19 +402,19 @@ pub gen_expr-returns-then-is_some : goal.gen_expr-returns-then-is_some
 gen_expr-returns-then-is_some t c = walks start (stays (sym c.if-is_some.ensures) c.args.context.now.builder.fine)
 
 pub gen_for_loop-each-requires : goal.gen_for_loop-each-requires
-gen_for_loop-each-requires t c = (omega (arith, c.decreases, c.requires.walk.fits, c.kid-initialize.ensures.kid.fewer, c.list-conditions.ensures.list.fewer, c.list-update.ensures.list.fewer, c.gen_statement-in-Classic.auto.scratch, c.ends.auto.scratch, c.gen_statement-in-Classic-2.auto.scratch), (walk (built {d = c.gen_statement-in-Classic-2.new.context} (c.mark_label-in-Classic-2.ensures (file_of c.args.t.now)).keeps.list (walked c.gen_statement-in-Classic-2.ensures (walked c.ends.ensures (built {d = c.gen_statement-in-Classic.new.context} (keeps_then (c.create_label-start.ensures (file_of c.args.t.now)).keeps (c.mark_label-in-Classic.ensures (file_of c.args.t.now)).keeps).list (walked c.gen_statement-in-Classic.ensures (built {d = c.args.context.now} (keeps_then (c.create_label-end.ensures (file_of c.args.t.now)).keeps (c.create_label-next.ensures (file_of c.args.t.now)).keeps).list start)))))) (c.requires.walk.script ∙ sym c.list-update.ensures.script) (omega (arith, c.requires.walk.fits, c.kid-initialize.ensures.kid.fewer, c.list-conditions.ensures.list.fewer, c.list-update.ensures.list.fewer, c.gen_statement-in-Classic.auto.scratch, c.ends.auto.scratch, c.gen_statement-in-Classic-2.auto.scratch)), omega (arith, c.requires.walk.fits, c.kid-initialize.ensures.kid.fewer, c.list-conditions.ensures.list.fewer, c.list-update.ensures.list.fewer, c.gen_statement-in-Classic.auto.scratch, c.ends.auto.scratch, c.gen_statement-in-Classic-2.auto.scratch, c.args.t.now.within.known, c.args.t.now.within.sound.few, c.args.t.now.within.inside)))
+gen_for_loop-each-requires t c = (omega (arith, c.decreases, c.requires.walk.fits, c.kid-initialize.ensures.kid.fewer, c.list-conditions.ensures.list.fewer, c.list-update.ensures.list.fewer, c.gen_statement-in-Classic.auto.scratch, c.ends.auto.scratch, c.gen_statement-in-Classic-2.auto.scratch), (walk (built {d = c.gen_statement-in-Classic-2.new.context} (c.mark_label-in-Classic-2.ensures (file_of c.args.t.now)).keeps.list (walked c.gen_statement-in-Classic-2.ensures (walked c.ends.ensures (built {d = c.gen_statement-in-Classic.new.context} (keeps_then (c.create_label-start.ensures.runs (file_of c.args.t.now)).keeps (c.mark_label-in-Classic.ensures (file_of c.args.t.now)).keeps).list (walked c.gen_statement-in-Classic.ensures (built {d = c.args.context.now} (keeps_then (c.create_label-end.ensures.runs (file_of c.args.t.now)).keeps (c.create_label-next.ensures.runs (file_of c.args.t.now)).keeps).list start)))))) (c.requires.walk.script ∙ sym c.list-update.ensures.script) (omega (arith, c.requires.walk.fits, c.kid-initialize.ensures.kid.fewer, c.list-conditions.ensures.list.fewer, c.list-update.ensures.list.fewer, c.gen_statement-in-Classic.auto.scratch, c.ends.auto.scratch, c.gen_statement-in-Classic-2.auto.scratch)), omega (arith, c.requires.walk.fits, c.kid-initialize.ensures.kid.fewer, c.list-conditions.ensures.list.fewer, c.list-update.ensures.list.fewer, c.gen_statement-in-Classic.auto.scratch, c.ends.auto.scratch, c.gen_statement-in-Classic-2.auto.scratch, c.args.t.now.within.known, c.args.t.now.within.sound.few, c.args.t.now.within.inside)))
 
 pub gen_for_loop-gen_target-requires-clause-file_len_bound : goal.gen_for_loop-gen_target-requires-clause-file_len_bound
-gen_for_loop-gen_target-requires-clause-file_len_bound t c = rw ((walked c.gen_expr.ensures (built {d = c.args.context.now} (keeps_then (c.create_label-end.ensures (file_of c.args.t.now)).keeps (c.create_label-next.ensures (file_of c.args.t.now)).keeps).list start)).script ∙ c.requires.walk.script) c.args.t.now.within.sound.short
+gen_for_loop-gen_target-requires-clause-file_len_bound t c = rw ((walked c.gen_expr.ensures (built {d = c.args.context.now} (keeps_then (c.create_label-end.ensures.runs (file_of c.args.t.now)).keeps (c.create_label-next.ensures.runs (file_of c.args.t.now)).keeps).list start)).script ∙ c.requires.walk.script) c.args.t.now.within.sound.short
 
 pub gen_for_loop-gen_target-requires-clause-t : goal.gen_for_loop-gen_target-requires-clause-t
-gen_for_loop-gen_target-requires-clause-t t c = rw ((walked c.gen_expr.ensures (built {d = c.args.context.now} (keeps_then (c.create_label-end.ensures (file_of c.args.t.now)).keeps (c.create_label-next.ensures (file_of c.args.t.now)).keeps).list start)).script ∙ c.requires.walk.script) (rw c.in-Enumerate.is at c.requires.named)
+gen_for_loop-gen_target-requires-clause-t t c = rw ((walked c.gen_expr.ensures (built {d = c.args.context.now} (keeps_then (c.create_label-end.ensures.runs (file_of c.args.t.now)).keeps (c.create_label-next.ensures.runs (file_of c.args.t.now)).keeps).list start)).script ∙ c.requires.walk.script) (rw c.in-Enumerate.is at c.requires.named)
 
 pub gen_for_loop-invariant_of-context : goal.gen_for_loop-invariant_of-context
-gen_for_loop-invariant_of-context t c = record { laid_out = c.args.context.now.laid_out; indexed = index_stays (keeps_then (c.create_label-end.ensures (file_of c.args.t.now)).keeps (c.create_label-next.ensures (file_of c.args.t.now)).keeps).pool c.args.context.now.indexed }
+gen_for_loop-invariant_of-context t c = record { laid_out = c.args.context.now.laid_out; indexed = index_stays (keeps_then (c.create_label-end.ensures.runs (file_of c.args.t.now)).keeps (c.create_label-next.ensures.runs (file_of c.args.t.now)).keeps).pool c.args.context.now.indexed }
 
 pub gen_for_loop-invariant_of-context-in-Classic : goal.gen_for_loop-invariant_of-context-in-Classic
-gen_for_loop-invariant_of-context-in-Classic t c = record { laid_out = c.gen_statement-in-Classic.new.context.laid_out; indexed = index_stays (keeps_then (c.create_label-start.ensures (file_of c.args.t.now)).keeps (c.mark_label-in-Classic.ensures (file_of c.args.t.now)).keeps).pool c.gen_statement-in-Classic.new.context.indexed }
+gen_for_loop-invariant_of-context-in-Classic t c = record { laid_out = c.gen_statement-in-Classic.new.context.laid_out; indexed = index_stays (keeps_then (c.create_label-start.ensures.runs (file_of c.args.t.now)).keeps (c.mark_label-in-Classic.ensures (file_of c.args.t.now)).keeps).pool c.gen_statement-in-Classic.new.context.indexed }
 
 pub gen_for_loop-invariant_of-context-in-Classic-2 : goal.gen_for_loop-invariant_of-context-in-Classic-2
 gen_for_loop-invariant_of-context-in-Classic-2 t c = record { laid_out = c.gen_statement-in-Classic-2.new.context.laid_out; indexed = index_stays (c.mark_label-in-Classic-2.ensures (file_of c.args.t.now)).keeps.pool c.gen_statement-in-Classic-2.new.context.indexed }
@@ -435,10 +429,10 @@ pub gen_for_loop-invariant_of-context-in-Enumerate-2 : goal.gen_for_loop-invaria
 gen_for_loop-invariant_of-context-in-Enumerate-2 t c = record { laid_out = c.gen_statement.new.context.laid_out; indexed = index_stays (keeps_then (c.jump.ensures (file_of c.args.t.now)).keeps (keeps_then (c.truncate_stack.ensures (file_of c.args.t.now)).keeps (c.mark_label-in-Enumerate.ensures (file_of c.args.t.now)).keeps)).pool c.gen_statement.new.context.indexed }
 
 pub gen_for_loop-returns-in-Classic : goal.gen_for_loop-returns-in-Classic
-gen_for_loop-returns-in-Classic t c = walks (built {d = c.each.new.context} (keeps_then (c.jump-in-Classic.ensures (file_of c.args.t.now)).keeps (keeps_then (c.truncate_stack-in-Classic.ensures (file_of c.args.t.now)).keeps (c.mark_label-in-Classic-3.ensures (file_of c.args.t.now)).keeps)).list (walked c.each.ensures (built {d = c.gen_statement-in-Classic-2.new.context} (c.mark_label-in-Classic-2.ensures (file_of c.args.t.now)).keeps.list (walked c.gen_statement-in-Classic-2.ensures (walked c.ends.ensures (built {d = c.gen_statement-in-Classic.new.context} (keeps_then (c.create_label-start.ensures (file_of c.args.t.now)).keeps (c.mark_label-in-Classic.ensures (file_of c.args.t.now)).keeps).list (walked c.gen_statement-in-Classic.ensures (built {d = c.args.context.now} (keeps_then (c.create_label-end.ensures (file_of c.args.t.now)).keeps (c.create_label-next.ensures (file_of c.args.t.now)).keeps).list start)))))))) (rw c.in-Classic.is (for_loop_arm c.args.t.now.script.layout c.args.t.now.part c.kid-initialize.ensures.kid c.list-conditions.ensures.list c.list-update.ensures.list (loop_of c.loop_to-inner.result) c.loop_to-inner.ensures (c.create_label-end.ensures (file_of c.args.t.now)).does (c.create_label-next.ensures (file_of c.args.t.now)).does (rw c.kid-initialize.ensures.script at c.gen_statement-in-Classic.ensures.does) (c.create_label-start.ensures (file_of c.args.t.now)).does (c.mark_label-in-Classic.ensures (file_of c.args.t.now)).does (rw c.list-conditions.ensures.script at c.ends.ensures.does) c.gen_statement-in-Classic-2.ensures.does (c.mark_label-in-Classic-2.ensures (file_of c.args.t.now)).does (rw c.list-update.ensures.script at c.each.ensures.does) (c.jump-in-Classic.ensures (file_of c.args.t.now)).does (c.truncate_stack-in-Classic.ensures (file_of c.args.t.now)).does (c.mark_label-in-Classic-3.ensures (file_of c.args.t.now)).does))
+gen_for_loop-returns-in-Classic t c = walks (built {d = c.each.new.context} (keeps_then (c.jump-in-Classic.ensures (file_of c.args.t.now)).keeps (keeps_then (c.truncate_stack-in-Classic.ensures (file_of c.args.t.now)).keeps (c.mark_label-in-Classic-3.ensures (file_of c.args.t.now)).keeps)).list (walked c.each.ensures (built {d = c.gen_statement-in-Classic-2.new.context} (c.mark_label-in-Classic-2.ensures (file_of c.args.t.now)).keeps.list (walked c.gen_statement-in-Classic-2.ensures (walked c.ends.ensures (built {d = c.gen_statement-in-Classic.new.context} (keeps_then (c.create_label-start.ensures.runs (file_of c.args.t.now)).keeps (c.mark_label-in-Classic.ensures (file_of c.args.t.now)).keeps).list (walked c.gen_statement-in-Classic.ensures (built {d = c.args.context.now} (keeps_then (c.create_label-end.ensures.runs (file_of c.args.t.now)).keeps (c.create_label-next.ensures.runs (file_of c.args.t.now)).keeps).list start)))))))) (rw c.in-Classic.is (for_loop_arm c.args.t.now.script.layout c.args.t.now.part c.kid-initialize.ensures.kid c.list-conditions.ensures.list c.list-update.ensures.list (loop_of c.loop_to-inner.result) c.loop_to-inner.ensures (c.create_label-end.ensures.runs (file_of c.args.t.now)).does (c.create_label-next.ensures.runs (file_of c.args.t.now)).does (rw c.kid-initialize.ensures.script at c.gen_statement-in-Classic.ensures.does) (c.create_label-start.ensures.runs (file_of c.args.t.now)).does (c.mark_label-in-Classic.ensures (file_of c.args.t.now)).does (rw c.list-conditions.ensures.script at c.ends.ensures.does) c.gen_statement-in-Classic-2.ensures.does (c.mark_label-in-Classic-2.ensures (file_of c.args.t.now)).does (rw c.list-update.ensures.script at c.each.ensures.does) (c.jump-in-Classic.ensures (file_of c.args.t.now)).does (c.truncate_stack-in-Classic.ensures (file_of c.args.t.now)).does (c.mark_label-in-Classic-3.ensures (file_of c.args.t.now)).does))
 
 pub gen_for_loop-returns-in-Enumerate : goal.gen_for_loop-returns-in-Enumerate
-gen_for_loop-returns-in-Enumerate t c = walks (built {d = c.gen_statement.new.context} (keeps_then (c.jump.ensures (file_of c.args.t.now)).keeps (keeps_then (c.truncate_stack.ensures (file_of c.args.t.now)).keeps (c.mark_label-in-Enumerate.ensures (file_of c.args.t.now)).keeps)).list (walked c.gen_statement.ensures (acted c.gen_target.ensures (built {d = c.gen_expr.new.context} (keeps_then (c.action.ensures (file_of c.args.t.now)).keeps (keeps_then (c.mark_label.ensures (file_of c.args.t.now)).keeps (keeps_then (c.store_register.ensures (file_of c.args.t.now)).keeps (keeps_then c.push.ensures.keeps (keeps_then (c.action-in-Enumerate.ensures (file_of c.args.t.now)).keeps (c.branch-context.ensures (file_of c.args.t.now)).keeps))))).list (walked c.gen_expr.ensures (built {d = c.args.context.now} (keeps_then (c.create_label-end.ensures (file_of c.args.t.now)).keeps (c.create_label-next.ensures (file_of c.args.t.now)).keeps).list start)))))) (rw c.in-Enumerate.is (for_in_arm c.args.t.now.script.layout c.args.t.now.part (target_over (string_at (file_of c.args.t.now) (layout_of (file_of c.args.t.now))) c.in-Enumerate.target) c.kid-object.ensures.kid (loop_of c.loop_to-inner.result) c.loop_to-inner.ensures (c.create_label-end.ensures (file_of c.args.t.now)).does (c.create_label-next.ensures (file_of c.args.t.now)).does (rw c.kid-object.ensures.script at c.gen_expr.ensures.does) (c.action.ensures (file_of c.args.t.now)).does (c.mark_label.ensures (file_of c.args.t.now)).does (c.store_register.ensures (file_of c.args.t.now)).does (c.push.ensures.runs (file_of c.args.t.now) tt).does (c.action-in-Enumerate.ensures (file_of c.args.t.now)).does (c.branch-context.ensures (file_of c.args.t.now)).does (rw ((walked c.gen_expr.ensures (built {d = c.args.context.now} (keeps_then (c.create_label-end.ensures (file_of c.args.t.now)).keeps (c.create_label-next.ensures (file_of c.args.t.now)).keeps).list start)).script ∙ c.requires.walk.script) at c.gen_target.ensures.does) c.gen_statement.ensures.does (c.jump.ensures (file_of c.args.t.now)).does (c.truncate_stack.ensures (file_of c.args.t.now)).does (c.mark_label-in-Enumerate.ensures (file_of c.args.t.now)).does))
+gen_for_loop-returns-in-Enumerate t c = walks (built {d = c.gen_statement.new.context} (keeps_then (c.jump.ensures (file_of c.args.t.now)).keeps (keeps_then (c.truncate_stack.ensures (file_of c.args.t.now)).keeps (c.mark_label-in-Enumerate.ensures (file_of c.args.t.now)).keeps)).list (walked c.gen_statement.ensures (acted c.gen_target.ensures (built {d = c.gen_expr.new.context} (keeps_then (c.action.ensures (file_of c.args.t.now)).keeps (keeps_then (c.mark_label.ensures (file_of c.args.t.now)).keeps (keeps_then (c.store_register.ensures (file_of c.args.t.now)).keeps (keeps_then c.push.ensures.keeps (keeps_then (c.action-in-Enumerate.ensures (file_of c.args.t.now)).keeps (c.branch-context.ensures (file_of c.args.t.now)).keeps))))).list (walked c.gen_expr.ensures (built {d = c.args.context.now} (keeps_then (c.create_label-end.ensures.runs (file_of c.args.t.now)).keeps (c.create_label-next.ensures.runs (file_of c.args.t.now)).keeps).list start)))))) (rw c.in-Enumerate.is (for_in_arm c.args.t.now.script.layout c.args.t.now.part (target_over (string_at (file_of c.args.t.now) (layout_of (file_of c.args.t.now))) c.in-Enumerate.target) c.kid-object.ensures.kid (loop_of c.loop_to-inner.result) c.loop_to-inner.ensures (c.create_label-end.ensures.runs (file_of c.args.t.now)).does (c.create_label-next.ensures.runs (file_of c.args.t.now)).does (rw c.kid-object.ensures.script at c.gen_expr.ensures.does) (c.action.ensures (file_of c.args.t.now)).does (c.mark_label.ensures (file_of c.args.t.now)).does (c.store_register.ensures (file_of c.args.t.now)).does (c.push.ensures.runs (file_of c.args.t.now) tt).does (c.action-in-Enumerate.ensures (file_of c.args.t.now)).does (c.branch-context.ensures (file_of c.args.t.now)).does (rw ((walked c.gen_expr.ensures (built {d = c.args.context.now} (keeps_then (c.create_label-end.ensures.runs (file_of c.args.t.now)).keeps (c.create_label-next.ensures.runs (file_of c.args.t.now)).keeps).list start)).script ∙ c.requires.walk.script) at c.gen_target.ensures.does) c.gen_statement.ensures.does (c.jump.ensures (file_of c.args.t.now)).does (c.truncate_stack.ensures (file_of c.args.t.now)).does (c.mark_label-in-Enumerate.ensures (file_of c.args.t.now)).does))
 
 pub gen_function-end_function-requires : goal.gen_function-end_function-requires
 gen_function-end_function-requires t c = rw (c.begin_function-outer.ensures.outer.0, c.begin_function-outer.ensures.outer.1) (ready (file_of c.args.t.now) _ c.args.context.now.builder.state _ c.args.context.now.builder.fine (rw (c.begin_function-outer.ensures.state, c.begin_function-outer.ensures.list, c.no_loop-idle.ensures, ← c.list-body.ensures.list.means) at (rw c.list-body.ensures.script at c.gen_statements.ensures.does)))
@@ -450,7 +444,7 @@ pub gen_function-returns : goal.gen_function-returns
 gen_function-returns t c = λ nf mv. walks (built {d = c.gen_statements.new.context} c.end_function.ensures.keeps.list (walked c.gen_statements.ensures (built {d = c.args.context.now} c.begin_function-outer.ensures.keeps.list start))) (function_done (file_of c.args.t.now) _ c.args.context.now.builder.state _ c.args.context.now.builder.fine (rw (c.begin_function-outer.ensures.state, c.begin_function-outer.ensures.list, c.no_loop-idle.ensures, ← c.list-body.ensures.list.means) at (rw c.list-body.ensures.script at c.gen_statements.ensures.does)) _ (rw (c.begin_function-outer.ensures.outer.0, c.begin_function-outer.ensures.outer.1) at (c.end_function.ensures.ends (file_of c.args.t.now) nf (rw c.begin_function-outer.ensures.outer.1 mv)).ends))
 
 pub gen_if-invariant_of-context : goal.gen_if-invariant_of-context
-gen_if-invariant_of-context t c = record { laid_out = c.args.context.now.laid_out; indexed = index_stays (c.create_label-end.ensures (file_of c.args.t.now)).keeps.pool c.args.context.now.indexed }
+gen_if-invariant_of-context t c = record { laid_out = c.args.context.now.laid_out; indexed = index_stays (c.create_label-end.ensures.runs (file_of c.args.t.now)).keeps.pool c.args.context.now.indexed }
 
 pub gen_if-invariant_of-context-2 : goal.gen_if-invariant_of-context-2
 gen_if-invariant_of-context-2 t c = record { laid_out = c.gen_expr.new.context.laid_out; indexed = index_stays (keeps_then (c.action.ensures (file_of c.args.t.now)).keeps (c.branch-context-2.ensures (file_of c.args.t.now)).keeps).pool c.gen_expr.new.context.indexed }
@@ -459,7 +453,7 @@ pub gen_if-invariant_of-context-3 : goal.gen_if-invariant_of-context-3
 gen_if-invariant_of-context-3 t c = record { laid_out = c.gen_statement-2.new.context.laid_out; indexed = index_stays (c.mark_label-2.ensures (file_of c.args.t.now)).keeps.pool c.gen_statement-2.new.context.indexed }
 
 pub gen_if-invariant_of-context-then-is_present : goal.gen_if-invariant_of-context-then-is_present
-gen_if-invariant_of-context-then-is_present t c = record { laid_out = c.gen_expr.new.context.laid_out; indexed = index_stays (keeps_then (c.action.ensures (file_of c.args.t.now)).keeps (keeps_then (c.create_label-no.ensures (file_of c.args.t.now)).keeps (c.branch-context.ensures (file_of c.args.t.now)).keeps)).pool c.gen_expr.new.context.indexed }
+gen_if-invariant_of-context-then-is_present t c = record { laid_out = c.gen_expr.new.context.laid_out; indexed = index_stays (keeps_then (c.action.ensures (file_of c.args.t.now)).keeps (keeps_then (c.create_label-no.ensures.runs (file_of c.args.t.now)).keeps (c.branch-context.ensures (file_of c.args.t.now)).keeps)).pool c.gen_expr.new.context.indexed }
 
 pub gen_if-invariant_of-context-then-is_present-2 : goal.gen_if-invariant_of-context-then-is_present-2
 gen_if-invariant_of-context-then-is_present-2 t c = record { laid_out = c.gen_statement.new.context.laid_out; indexed = index_stays (keeps_then (c.jump.ensures (file_of c.args.t.now)).keeps (c.mark_label.ensures (file_of c.args.t.now)).keeps).pool c.gen_statement.new.context.indexed }
@@ -468,10 +462,10 @@ pub gen_if-invariant_of-context-then-is_present-3 : goal.gen_if-invariant_of-con
 gen_if-invariant_of-context-then-is_present-3 t c = record { laid_out = c.gen_statement-then-is_present.new.context.laid_out; indexed = index_stays (c.mark_label-then-is_present.ensures (file_of c.args.t.now)).keeps.pool c.gen_statement-then-is_present.new.context.indexed }
 
 pub gen_if-returns : goal.gen_if-returns
-gen_if-returns t c = walks (built {d = c.gen_statement-2.new.context} (c.mark_label-2.ensures (file_of c.args.t.now)).keeps.list (walked c.gen_statement-2.ensures (built {d = c.gen_expr.new.context} (keeps_then (c.action.ensures (file_of c.args.t.now)).keeps (c.branch-context-2.ensures (file_of c.args.t.now)).keeps).list (walked c.gen_expr.ensures (built {d = c.args.context.now} (c.create_label-end.ensures (file_of c.args.t.now)).keeps.list start))))) (if_one_arm c.args.t.now.script.layout c.args.t.now.part (loop_of c.args.lp) c.kid-condition.ensures.kid c.kid-yes.ensures.kid (ap present (rec_is (is_node _ _ _ c.args.t.now.within c.node-node.ensures.node)) ∙ sym (c.is_present.ensures (file_of c.args.t.now)) ∙ c.if-is_present.false) (c.create_label-end.ensures (file_of c.args.t.now)).does (rw c.kid-condition.ensures.script at c.gen_expr.ensures.does) (c.action.ensures (file_of c.args.t.now)).does (c.branch-context-2.ensures (file_of c.args.t.now)).does (rw c.kid-yes.ensures.script at c.gen_statement-2.ensures.does) (c.mark_label-2.ensures (file_of c.args.t.now)).does)
+gen_if-returns t c = walks (built {d = c.gen_statement-2.new.context} (c.mark_label-2.ensures (file_of c.args.t.now)).keeps.list (walked c.gen_statement-2.ensures (built {d = c.gen_expr.new.context} (keeps_then (c.action.ensures (file_of c.args.t.now)).keeps (c.branch-context-2.ensures (file_of c.args.t.now)).keeps).list (walked c.gen_expr.ensures (built {d = c.args.context.now} (c.create_label-end.ensures.runs (file_of c.args.t.now)).keeps.list start))))) (if_one_arm c.args.t.now.script.layout c.args.t.now.part (loop_of c.args.lp) c.kid-condition.ensures.kid c.kid-yes.ensures.kid (ap present (rec_is (is_node _ _ _ c.args.t.now.within c.node-node.ensures.node)) ∙ sym (c.is_present.ensures (file_of c.args.t.now)) ∙ c.if-is_present.false) (c.create_label-end.ensures.runs (file_of c.args.t.now)).does (rw c.kid-condition.ensures.script at c.gen_expr.ensures.does) (c.action.ensures (file_of c.args.t.now)).does (c.branch-context-2.ensures (file_of c.args.t.now)).does (rw c.kid-yes.ensures.script at c.gen_statement-2.ensures.does) (c.mark_label-2.ensures (file_of c.args.t.now)).does)
 
 pub gen_if-returns-then-is_present : goal.gen_if-returns-then-is_present
-gen_if-returns-then-is_present t c = walks (built {d = c.gen_statement-then-is_present.new.context} (c.mark_label-then-is_present.ensures (file_of c.args.t.now)).keeps.list (walked c.gen_statement-then-is_present.ensures (built {d = c.gen_statement.new.context} (keeps_then (c.jump.ensures (file_of c.args.t.now)).keeps (c.mark_label.ensures (file_of c.args.t.now)).keeps).list (walked c.gen_statement.ensures (built {d = c.gen_expr.new.context} (keeps_then (c.action.ensures (file_of c.args.t.now)).keeps (keeps_then (c.create_label-no.ensures (file_of c.args.t.now)).keeps (c.branch-context.ensures (file_of c.args.t.now)).keeps)).list (walked c.gen_expr.ensures (built {d = c.args.context.now} (c.create_label-end.ensures (file_of c.args.t.now)).keeps.list start))))))) (if_both_arm c.args.t.now.script.layout c.args.t.now.part (loop_of c.args.lp) c.kid-condition.ensures.kid c.kid-yes.ensures.kid (ap present (rec_is (is_node _ _ _ c.args.t.now.within c.node-node.ensures.node)) ∙ sym (c.is_present.ensures (file_of c.args.t.now)) ∙ c.if-is_present.true) (c.create_label-end.ensures (file_of c.args.t.now)).does (rw c.kid-condition.ensures.script at c.gen_expr.ensures.does) (c.action.ensures (file_of c.args.t.now)).does (c.create_label-no.ensures (file_of c.args.t.now)).does (c.branch-context.ensures (file_of c.args.t.now)).does (rw c.kid-yes.ensures.script at c.gen_statement.ensures.does) (c.jump.ensures (file_of c.args.t.now)).does (c.mark_label.ensures (file_of c.args.t.now)).does c.gen_statement-then-is_present.ensures.does (c.mark_label-then-is_present.ensures (file_of c.args.t.now)).does)
+gen_if-returns-then-is_present t c = walks (built {d = c.gen_statement-then-is_present.new.context} (c.mark_label-then-is_present.ensures (file_of c.args.t.now)).keeps.list (walked c.gen_statement-then-is_present.ensures (built {d = c.gen_statement.new.context} (keeps_then (c.jump.ensures (file_of c.args.t.now)).keeps (c.mark_label.ensures (file_of c.args.t.now)).keeps).list (walked c.gen_statement.ensures (built {d = c.gen_expr.new.context} (keeps_then (c.action.ensures (file_of c.args.t.now)).keeps (keeps_then (c.create_label-no.ensures.runs (file_of c.args.t.now)).keeps (c.branch-context.ensures (file_of c.args.t.now)).keeps)).list (walked c.gen_expr.ensures (built {d = c.args.context.now} (c.create_label-end.ensures.runs (file_of c.args.t.now)).keeps.list start))))))) (if_both_arm c.args.t.now.script.layout c.args.t.now.part (loop_of c.args.lp) c.kid-condition.ensures.kid c.kid-yes.ensures.kid (ap present (rec_is (is_node _ _ _ c.args.t.now.within c.node-node.ensures.node)) ∙ sym (c.is_present.ensures (file_of c.args.t.now)) ∙ c.if-is_present.true) (c.create_label-end.ensures.runs (file_of c.args.t.now)).does (rw c.kid-condition.ensures.script at c.gen_expr.ensures.does) (c.action.ensures (file_of c.args.t.now)).does (c.create_label-no.ensures.runs (file_of c.args.t.now)).does (c.branch-context.ensures (file_of c.args.t.now)).does (rw c.kid-yes.ensures.script at c.gen_statement.ensures.does) (c.jump.ensures (file_of c.args.t.now)).does (c.mark_label.ensures (file_of c.args.t.now)).does c.gen_statement-then-is_present.ensures.does (c.mark_label-then-is_present.ensures (file_of c.args.t.now)).does)
 
 pub gen_statement-exit-requires : goal.gen_statement-exit-requires
 gen_statement-exit-requires t c = in_kids c.node-node.result 0 5 (omega arith) c.decreases c.requires c.node-node.ensures.children c.node-node.ensures.node (ap live c.in-Statement.is)
@@ -573,16 +567,16 @@ pub gen_switch-default_label-default-requires-clause-labels_bound : goal.gen_swi
 gen_switch-default_label-default-requires-clause-labels_bound t c = omega (arith, labels_less c.list-elements.ensures.list (rw c.list-elements.ensures.script at c.counts-n.ensures), c.args.t.now.within.known, c.args.t.now.within.sound.few, c.args.t.now.within.inside, c.create_labels-first.ensures.bound)
 
 pub gen_switch-each-requires : goal.gen_switch-each-requires
-gen_switch-each-requires t c = (omega (arith, c.decreases, c.requires.fits, c.list-elements.ensures.list.fewer), (walk (built {d = c.args.context.now} (keeps_then (c.create_label-end.ensures (file_of c.args.t.now)).keeps (keeps_then c.create_labels-first.ensures.keeps (c.jump.ensures (file_of c.args.t.now)).keeps)).list start) (c.requires.script ∙ sym c.list-elements.ensures.script) (omega (arith, c.requires.fits, c.list-elements.ensures.list.fewer)), omega (arith, c.requires.fits, c.list-elements.ensures.list.fewer, c.args.t.now.within.known, c.args.t.now.within.sound.few, c.args.t.now.within.inside, c.create_labels-first.ensures.bound)))
+gen_switch-each-requires t c = (omega (arith, c.decreases, c.requires.fits, c.list-elements.ensures.list.fewer), (walk (built {d = c.args.context.now} (keeps_then (c.create_label-end.ensures.runs (file_of c.args.t.now)).keeps (keeps_then c.create_labels-first.ensures.keeps (c.jump.ensures (file_of c.args.t.now)).keeps)).list start) (c.requires.script ∙ sym c.list-elements.ensures.script) (omega (arith, c.requires.fits, c.list-elements.ensures.list.fewer)), omega (arith, c.requires.fits, c.list-elements.ensures.list.fewer, c.args.t.now.within.known, c.args.t.now.within.sound.few, c.args.t.now.within.inside, c.create_labels-first.ensures.bound)))
 
 pub gen_switch-each-requires-2 : goal.gen_switch-each-requires-2
-gen_switch-each-requires-2 t c = (omega (arith, c.decreases, c.requires.fits, c.list-elements.ensures.list.fewer, c.kid-target.ensures.kid.fewer, c.gen_expr.auto.scratch), (walk (built {d = c.gen_expr.new.context} (c.store_register.ensures (file_of c.args.t.now)).keeps.list (walked c.gen_expr.ensures (built {d = c.args.context.now} (keeps_then (c.create_label-end.ensures (file_of c.args.t.now)).keeps c.create_labels-first.ensures.keeps).list start))) (c.requires.script ∙ sym c.list-elements.ensures.script) (omega (arith, c.requires.fits, c.list-elements.ensures.list.fewer, c.kid-target.ensures.kid.fewer, c.gen_expr.auto.scratch)), omega (arith, c.requires.fits, c.list-elements.ensures.list.fewer, c.kid-target.ensures.kid.fewer, c.gen_expr.auto.scratch, c.args.t.now.within.known, c.args.t.now.within.sound.few, c.args.t.now.within.inside, c.create_labels-first.ensures.bound)))
+gen_switch-each-requires-2 t c = (omega (arith, c.decreases, c.requires.fits, c.list-elements.ensures.list.fewer, c.kid-target.ensures.kid.fewer, c.gen_expr.auto.scratch), (walk (built {d = c.gen_expr.new.context} (c.store_register.ensures (file_of c.args.t.now)).keeps.list (walked c.gen_expr.ensures (built {d = c.args.context.now} (keeps_then (c.create_label-end.ensures.runs (file_of c.args.t.now)).keeps c.create_labels-first.ensures.keeps).list start))) (c.requires.script ∙ sym c.list-elements.ensures.script) (omega (arith, c.requires.fits, c.list-elements.ensures.list.fewer, c.kid-target.ensures.kid.fewer, c.gen_expr.auto.scratch)), omega (arith, c.requires.fits, c.list-elements.ensures.list.fewer, c.kid-target.ensures.kid.fewer, c.gen_expr.auto.scratch, c.args.t.now.within.known, c.args.t.now.within.sound.few, c.args.t.now.within.inside, c.create_labels-first.ensures.bound)))
 
 pub gen_switch-each-requires-3 : goal.gen_switch-each-requires-3
-gen_switch-each-requires-3 t c = (omega (arith, c.decreases, c.requires.fits, c.list-elements.ensures.list.fewer, c.kid-target.ensures.kid.fewer, c.gen_expr.auto.scratch, c.each-2.auto.scratch), (walk (built {d = c.each-2.new.context} (c.jump-2.ensures (file_of c.args.t.now)).keeps.list (walked c.each-2.ensures (built {d = c.gen_expr.new.context} (c.store_register.ensures (file_of c.args.t.now)).keeps.list (walked c.gen_expr.ensures (built {d = c.args.context.now} (keeps_then (c.create_label-end.ensures (file_of c.args.t.now)).keeps c.create_labels-first.ensures.keeps).list start))))) (c.requires.script ∙ sym c.list-elements.ensures.script) (omega (arith, c.requires.fits, c.list-elements.ensures.list.fewer, c.kid-target.ensures.kid.fewer, c.gen_expr.auto.scratch, c.each-2.auto.scratch)), omega (arith, c.requires.fits, c.list-elements.ensures.list.fewer, c.kid-target.ensures.kid.fewer, c.gen_expr.auto.scratch, c.each-2.auto.scratch, c.args.t.now.within.known, c.args.t.now.within.sound.few, c.args.t.now.within.inside, c.create_labels-first.ensures.bound)))
+gen_switch-each-requires-3 t c = (omega (arith, c.decreases, c.requires.fits, c.list-elements.ensures.list.fewer, c.kid-target.ensures.kid.fewer, c.gen_expr.auto.scratch, c.each-2.auto.scratch), (walk (built {d = c.each-2.new.context} (c.jump-2.ensures (file_of c.args.t.now)).keeps.list (walked c.each-2.ensures (built {d = c.gen_expr.new.context} (c.store_register.ensures (file_of c.args.t.now)).keeps.list (walked c.gen_expr.ensures (built {d = c.args.context.now} (keeps_then (c.create_label-end.ensures.runs (file_of c.args.t.now)).keeps c.create_labels-first.ensures.keeps).list start))))) (c.requires.script ∙ sym c.list-elements.ensures.script) (omega (arith, c.requires.fits, c.list-elements.ensures.list.fewer, c.kid-target.ensures.kid.fewer, c.gen_expr.auto.scratch, c.each-2.auto.scratch)), omega (arith, c.requires.fits, c.list-elements.ensures.list.fewer, c.kid-target.ensures.kid.fewer, c.gen_expr.auto.scratch, c.each-2.auto.scratch, c.args.t.now.within.known, c.args.t.now.within.sound.few, c.args.t.now.within.inside, c.create_labels-first.ensures.bound)))
 
 pub gen_switch-invariant_of-context : goal.gen_switch-invariant_of-context
-gen_switch-invariant_of-context t c = record { laid_out = c.args.context.now.laid_out; indexed = index_stays (keeps_then (c.create_label-end.ensures (file_of c.args.t.now)).keeps c.create_labels-first.ensures.keeps).pool c.args.context.now.indexed }
+gen_switch-invariant_of-context t c = record { laid_out = c.args.context.now.laid_out; indexed = index_stays (keeps_then (c.create_label-end.ensures.runs (file_of c.args.t.now)).keeps c.create_labels-first.ensures.keeps).pool c.args.context.now.indexed }
 
 pub gen_switch-invariant_of-context-2 : goal.gen_switch-invariant_of-context-2
 gen_switch-invariant_of-context-2 t c = record { laid_out = c.gen_expr.new.context.laid_out; indexed = index_stays (c.store_register.ensures (file_of c.args.t.now)).keeps.pool c.gen_expr.new.context.indexed }
@@ -594,25 +588,25 @@ pub gen_switch-invariant_of-context-4 : goal.gen_switch-invariant_of-context-4
 gen_switch-invariant_of-context-4 t c = record { laid_out = c.each-3.new.context.laid_out; indexed = index_stays (c.mark_label-2.ensures (file_of c.args.t.now)).keeps.pool c.each-3.new.context.indexed }
 
 pub gen_switch-invariant_of-context-then-n-eq0-2 : goal.gen_switch-invariant_of-context-then-n-eq0-2
-gen_switch-invariant_of-context-then-n-eq0-2 t c = record { laid_out = c.args.context.now.laid_out; indexed = index_stays (keeps_then (c.create_label-end.ensures (file_of c.args.t.now)).keeps (keeps_then c.create_labels-first.ensures.keeps (c.jump.ensures (file_of c.args.t.now)).keeps)).pool c.args.context.now.indexed }
+gen_switch-invariant_of-context-then-n-eq0-2 t c = record { laid_out = c.args.context.now.laid_out; indexed = index_stays (keeps_then (c.create_label-end.ensures.runs (file_of c.args.t.now)).keeps (keeps_then c.create_labels-first.ensures.keeps (c.jump.ensures (file_of c.args.t.now)).keeps)).pool c.args.context.now.indexed }
 
 pub gen_switch-invariant_of-context-then-n-eq0-2-2 : goal.gen_switch-invariant_of-context-then-n-eq0-2-2
 gen_switch-invariant_of-context-then-n-eq0-2-2 t c = record { laid_out = c.each.new.context.laid_out; indexed = index_stays (c.mark_label.ensures (file_of c.args.t.now)).keeps.pool c.each.new.context.indexed }
 
 pub gen_switch-returns : goal.gen_switch-returns
-gen_switch-returns t c = walks (built {d = c.each-3.new.context} (c.mark_label-2.ensures (file_of c.args.t.now)).keeps.list (walked c.each-3.ensures (built {d = c.each-2.new.context} (c.jump-2.ensures (file_of c.args.t.now)).keeps.list (walked c.each-2.ensures (built {d = c.gen_expr.new.context} (c.store_register.ensures (file_of c.args.t.now)).keeps.list (walked c.gen_expr.ensures (built {d = c.args.context.now} (keeps_then (c.create_label-end.ensures (file_of c.args.t.now)).keeps c.create_labels-first.ensures.keeps).list start))))))) (switch_cases_arm c.args.t.now.script.layout c.args.t.now.part c.create_labels-first.result.0 (loop_of c.args.lp) (loop_of c.with_exit-inner.result) _ _ c.list-elements.ensures.list (switching c.list-elements.ensures.list (rw c.list-elements.ensures.script at c.counts-n.ensures) _ _ (omega (arith, c.args.t.now.within.known, c.args.t.now.within.sound.few, c.args.t.now.within.inside, c.create_labels-first.ensures.bound)) c.default_label-default.ensures) c.with_exit-inner.ensures (some_labels (file_of c.args.t.now) c.args.t.now.part c.create_labels-first.result.0 (λ z. c.if-n-eq0.false (sym (labels_counted c.list-elements.ensures.list (rw c.list-elements.ensures.script at c.counts-n.ensures)) ∙ z))) (c.create_label-end.ensures (file_of c.args.t.now)).does (c.create_labels-first.ensures.runs (file_of c.args.t.now) (list_at (file_of c.args.t.now) c.args.t.now.part 0) (labels_counted c.list-elements.ensures.list (rw c.list-elements.ensures.script at c.counts-n.ensures))).does (tests_arm c.args.t.now.script.layout c.args.t.now.part (loop_of c.no_loop-idle.result) _ 0 _ c.kid-target.ensures.kid c.list-elements.ensures.list (switching c.list-elements.ensures.list (rw c.list-elements.ensures.script at c.counts-n.ensures) _ _ (omega (arith, c.args.t.now.within.known, c.args.t.now.within.sound.few, c.args.t.now.within.inside, c.create_labels-first.ensures.bound)) c.default_label-default.ensures).testing c.if-n-eq0-2.false (rw c.kid-target.ensures.script at c.gen_expr.ensures.does) (c.store_register.ensures (file_of c.args.t.now)).does (rw c.list-elements.ensures.script at c.each-2.ensures.does)) (c.jump-2.ensures (file_of c.args.t.now)).does (rw c.list-elements.ensures.script at c.each-3.ensures.does) (c.mark_label-2.ensures (file_of c.args.t.now)).does)
+gen_switch-returns t c = walks (built {d = c.each-3.new.context} (c.mark_label-2.ensures (file_of c.args.t.now)).keeps.list (walked c.each-3.ensures (built {d = c.each-2.new.context} (c.jump-2.ensures (file_of c.args.t.now)).keeps.list (walked c.each-2.ensures (built {d = c.gen_expr.new.context} (c.store_register.ensures (file_of c.args.t.now)).keeps.list (walked c.gen_expr.ensures (built {d = c.args.context.now} (keeps_then (c.create_label-end.ensures.runs (file_of c.args.t.now)).keeps c.create_labels-first.ensures.keeps).list start))))))) (switch_cases_arm c.args.t.now.script.layout c.args.t.now.part c.create_labels-first.result.0 (loop_of c.args.lp) (loop_of c.with_exit-inner.result) _ _ c.list-elements.ensures.list (switching c.list-elements.ensures.list (rw c.list-elements.ensures.script at c.counts-n.ensures) _ _ (omega (arith, c.args.t.now.within.known, c.args.t.now.within.sound.few, c.args.t.now.within.inside, c.create_labels-first.ensures.bound)) c.default_label-default.ensures) c.with_exit-inner.ensures (some_labels (file_of c.args.t.now) c.args.t.now.part c.create_labels-first.result.0 (λ z. c.if-n-eq0.false (sym (labels_counted c.list-elements.ensures.list (rw c.list-elements.ensures.script at c.counts-n.ensures)) ∙ z))) (c.create_label-end.ensures.runs (file_of c.args.t.now)).does (c.create_labels-first.ensures.runs (file_of c.args.t.now) (list_at (file_of c.args.t.now) c.args.t.now.part 0) (labels_counted c.list-elements.ensures.list (rw c.list-elements.ensures.script at c.counts-n.ensures))).does (tests_arm c.args.t.now.script.layout c.args.t.now.part (loop_of c.no_loop-idle.result) _ 0 _ c.kid-target.ensures.kid c.list-elements.ensures.list (switching c.list-elements.ensures.list (rw c.list-elements.ensures.script at c.counts-n.ensures) _ _ (omega (arith, c.args.t.now.within.known, c.args.t.now.within.sound.few, c.args.t.now.within.inside, c.create_labels-first.ensures.bound)) c.default_label-default.ensures).testing c.if-n-eq0-2.false (rw c.kid-target.ensures.script at c.gen_expr.ensures.does) (c.store_register.ensures (file_of c.args.t.now)).does (rw c.list-elements.ensures.script at c.each-2.ensures.does)) (c.jump-2.ensures (file_of c.args.t.now)).does (rw c.list-elements.ensures.script at c.each-3.ensures.does) (c.mark_label-2.ensures (file_of c.args.t.now)).does)
 
 pub gen_switch-returns-then-is_some : goal.gen_switch-returns-then-is_some
-gen_switch-returns-then-is_some t c = walks (built {d = c.args.context.now} (keeps_then (c.create_label-end.ensures (file_of c.args.t.now)).keeps c.create_labels-first.ensures.keeps).list start) (switch_arm c.args.t.now.script.layout c.args.t.now.part c.create_labels-first.result.0 (loop_of c.args.lp) (c.create_label-end.ensures (file_of c.args.t.now)).does (c.create_labels-first.ensures.runs (file_of c.args.t.now) (list_at (file_of c.args.t.now) c.args.t.now.part 0) (labels_counted c.list-elements.ensures.list (rw c.list-elements.ensures.script at c.counts-n.ensures))).does (stays (sym c.if-is_some.ensures) (c.create_labels-first.ensures.runs (file_of c.args.t.now) (list_at (file_of c.args.t.now) c.args.t.now.part 0) (labels_counted c.list-elements.ensures.list (rw c.list-elements.ensures.script at c.counts-n.ensures))).does.fine))
+gen_switch-returns-then-is_some t c = walks (built {d = c.args.context.now} (keeps_then (c.create_label-end.ensures.runs (file_of c.args.t.now)).keeps c.create_labels-first.ensures.keeps).list start) (switch_arm c.args.t.now.script.layout c.args.t.now.part c.create_labels-first.result.0 (loop_of c.args.lp) (c.create_label-end.ensures.runs (file_of c.args.t.now)).does (c.create_labels-first.ensures.runs (file_of c.args.t.now) (list_at (file_of c.args.t.now) c.args.t.now.part 0) (labels_counted c.list-elements.ensures.list (rw c.list-elements.ensures.script at c.counts-n.ensures))).does (stays (sym c.if-is_some.ensures) (c.create_labels-first.ensures.runs (file_of c.args.t.now) (list_at (file_of c.args.t.now) c.args.t.now.part 0) (labels_counted c.list-elements.ensures.list (rw c.list-elements.ensures.script at c.counts-n.ensures))).does.fine))
 
 pub gen_switch-returns-then-n-eq0 : goal.gen_switch-returns-then-n-eq0
-gen_switch-returns-then-n-eq0 t c = walks (built {d = c.args.context.now} (keeps_then (c.create_label-end.ensures (file_of c.args.t.now)).keeps c.create_labels-first.ensures.keeps).list start) (switch_arm c.args.t.now.script.layout c.args.t.now.part c.create_labels-first.result.0 (loop_of c.args.lp) (c.create_label-end.ensures (file_of c.args.t.now)).does (c.create_labels-first.ensures.runs (file_of c.args.t.now) (list_at (file_of c.args.t.now) c.args.t.now.part 0) (labels_counted c.list-elements.ensures.list (rw c.list-elements.ensures.script at c.counts-n.ensures))).does (rw (no_labels (file_of c.args.t.now) c.args.t.now.part c.create_labels-first.result.0 ((labels_counted c.list-elements.ensures.list (rw c.list-elements.ensures.script at c.counts-n.ensures)) ∙ c.if-n-eq0.true)) (idle (c.create_labels-first.ensures.runs (file_of c.args.t.now) (list_at (file_of c.args.t.now) c.args.t.now.part 0) (labels_counted c.list-elements.ensures.list (rw c.list-elements.ensures.script at c.counts-n.ensures))).does.fine)))
+gen_switch-returns-then-n-eq0 t c = walks (built {d = c.args.context.now} (keeps_then (c.create_label-end.ensures.runs (file_of c.args.t.now)).keeps c.create_labels-first.ensures.keeps).list start) (switch_arm c.args.t.now.script.layout c.args.t.now.part c.create_labels-first.result.0 (loop_of c.args.lp) (c.create_label-end.ensures.runs (file_of c.args.t.now)).does (c.create_labels-first.ensures.runs (file_of c.args.t.now) (list_at (file_of c.args.t.now) c.args.t.now.part 0) (labels_counted c.list-elements.ensures.list (rw c.list-elements.ensures.script at c.counts-n.ensures))).does (rw (no_labels (file_of c.args.t.now) c.args.t.now.part c.create_labels-first.result.0 ((labels_counted c.list-elements.ensures.list (rw c.list-elements.ensures.script at c.counts-n.ensures)) ∙ c.if-n-eq0.true)) (idle (c.create_labels-first.ensures.runs (file_of c.args.t.now) (list_at (file_of c.args.t.now) c.args.t.now.part 0) (labels_counted c.list-elements.ensures.list (rw c.list-elements.ensures.script at c.counts-n.ensures))).does.fine)))
 
 pub gen_switch-returns-then-n-eq0-2 : goal.gen_switch-returns-then-n-eq0-2
-gen_switch-returns-then-n-eq0-2 t c = walks (built {d = c.each.new.context} (c.mark_label.ensures (file_of c.args.t.now)).keeps.list (walked c.each.ensures (built {d = c.args.context.now} (keeps_then (c.create_label-end.ensures (file_of c.args.t.now)).keeps (keeps_then c.create_labels-first.ensures.keeps (c.jump.ensures (file_of c.args.t.now)).keeps)).list start))) (switch_cases_arm c.args.t.now.script.layout c.args.t.now.part c.create_labels-first.result.0 (loop_of c.args.lp) (loop_of c.with_exit-inner.result) _ _ c.list-elements.ensures.list (switching c.list-elements.ensures.list (rw c.list-elements.ensures.script at c.counts-n.ensures) _ _ (omega (arith, c.args.t.now.within.known, c.args.t.now.within.sound.few, c.args.t.now.within.inside, c.create_labels-first.ensures.bound)) c.default_label-default.ensures) c.with_exit-inner.ensures (some_labels (file_of c.args.t.now) c.args.t.now.part c.create_labels-first.result.0 (λ z. c.if-n-eq0.false (sym (labels_counted c.list-elements.ensures.list (rw c.list-elements.ensures.script at c.counts-n.ensures)) ∙ z))) (c.create_label-end.ensures (file_of c.args.t.now)).does (c.create_labels-first.ensures.runs (file_of c.args.t.now) (list_at (file_of c.args.t.now) c.args.t.now.part 0) (labels_counted c.list-elements.ensures.list (rw c.list-elements.ensures.script at c.counts-n.ensures))).does (no_tests_arm c.args.t.now.script.layout c.args.t.now.part _ _ (switching c.list-elements.ensures.list (rw c.list-elements.ensures.script at c.counts-n.ensures) _ _ (omega (arith, c.args.t.now.within.known, c.args.t.now.within.sound.few, c.args.t.now.within.inside, c.create_labels-first.ensures.bound)) c.default_label-default.ensures).testing c.if-n-eq0-2.true (c.create_labels-first.ensures.runs (file_of c.args.t.now) (list_at (file_of c.args.t.now) c.args.t.now.part 0) (labels_counted c.list-elements.ensures.list (rw c.list-elements.ensures.script at c.counts-n.ensures))).does.fine) (c.jump.ensures (file_of c.args.t.now)).does (rw c.list-elements.ensures.script at c.each.ensures.does) (c.mark_label.ensures (file_of c.args.t.now)).does)
+gen_switch-returns-then-n-eq0-2 t c = walks (built {d = c.each.new.context} (c.mark_label.ensures (file_of c.args.t.now)).keeps.list (walked c.each.ensures (built {d = c.args.context.now} (keeps_then (c.create_label-end.ensures.runs (file_of c.args.t.now)).keeps (keeps_then c.create_labels-first.ensures.keeps (c.jump.ensures (file_of c.args.t.now)).keeps)).list start))) (switch_cases_arm c.args.t.now.script.layout c.args.t.now.part c.create_labels-first.result.0 (loop_of c.args.lp) (loop_of c.with_exit-inner.result) _ _ c.list-elements.ensures.list (switching c.list-elements.ensures.list (rw c.list-elements.ensures.script at c.counts-n.ensures) _ _ (omega (arith, c.args.t.now.within.known, c.args.t.now.within.sound.few, c.args.t.now.within.inside, c.create_labels-first.ensures.bound)) c.default_label-default.ensures) c.with_exit-inner.ensures (some_labels (file_of c.args.t.now) c.args.t.now.part c.create_labels-first.result.0 (λ z. c.if-n-eq0.false (sym (labels_counted c.list-elements.ensures.list (rw c.list-elements.ensures.script at c.counts-n.ensures)) ∙ z))) (c.create_label-end.ensures.runs (file_of c.args.t.now)).does (c.create_labels-first.ensures.runs (file_of c.args.t.now) (list_at (file_of c.args.t.now) c.args.t.now.part 0) (labels_counted c.list-elements.ensures.list (rw c.list-elements.ensures.script at c.counts-n.ensures))).does (no_tests_arm c.args.t.now.script.layout c.args.t.now.part _ _ (switching c.list-elements.ensures.list (rw c.list-elements.ensures.script at c.counts-n.ensures) _ _ (omega (arith, c.args.t.now.within.known, c.args.t.now.within.sound.few, c.args.t.now.within.inside, c.create_labels-first.ensures.bound)) c.default_label-default.ensures).testing c.if-n-eq0-2.true (c.create_labels-first.ensures.runs (file_of c.args.t.now) (list_at (file_of c.args.t.now) c.args.t.now.part 0) (labels_counted c.list-elements.ensures.list (rw c.list-elements.ensures.script at c.counts-n.ensures))).does.fine) (c.jump.ensures (file_of c.args.t.now)).does (rw c.list-elements.ensures.script at c.each.ensures.does) (c.mark_label.ensures (file_of c.args.t.now)).does)
 
 pub gen_ternary-invariant_of-context : goal.gen_ternary-invariant_of-context
-gen_ternary-invariant_of-context t c = record { laid_out = c.args.context.now.laid_out; indexed = index_stays (keeps_then (c.create_label-end.ensures (file_of c.args.t.now)).keeps (c.create_label-label.ensures (file_of c.args.t.now)).keeps).pool c.args.context.now.indexed }
+gen_ternary-invariant_of-context t c = record { laid_out = c.args.context.now.laid_out; indexed = index_stays (keeps_then (c.create_label-end.ensures.runs (file_of c.args.t.now)).keeps (c.create_label-label.ensures.runs (file_of c.args.t.now)).keeps).pool c.args.context.now.indexed }
 
 pub gen_ternary-invariant_of-context-2 : goal.gen_ternary-invariant_of-context-2
 gen_ternary-invariant_of-context-2 t c = record { laid_out = c.gen_expr.new.context.laid_out; indexed = index_stays (c.branch-context.ensures (file_of c.args.t.now)).keeps.pool c.gen_expr.new.context.indexed }
@@ -621,10 +615,10 @@ pub gen_ternary-invariant_of-context-3 : goal.gen_ternary-invariant_of-context-3
 gen_ternary-invariant_of-context-3 t c = record { laid_out = c.gen_expr-2.new.context.laid_out; indexed = index_stays (keeps_then (c.jump.ensures (file_of c.args.t.now)).keeps (c.mark_label.ensures (file_of c.args.t.now)).keeps).pool c.gen_expr-2.new.context.indexed }
 
 pub gen_ternary-invariant_of-context-4 : goal.gen_ternary-invariant_of-context-4
-gen_ternary-invariant_of-context-4 t c = record { laid_out = c.gen_expr-3.new.context.laid_out; indexed = index_stays (keeps_then (c.mark_label-2.ensures (file_of c.args.t.now)).keeps (c.assume_stack_delta.ensures (file_of c.args.t.now)).keeps).pool c.gen_expr-3.new.context.indexed }
+gen_ternary-invariant_of-context-4 t c = record { laid_out = c.gen_expr-3.new.context.laid_out; indexed = index_stays (keeps_then (c.mark_label-2.ensures (file_of c.args.t.now)).keeps (c.assume_stack_delta.ensures.runs (file_of c.args.t.now)).keeps).pool c.gen_expr-3.new.context.indexed }
 
 pub gen_ternary-returns : goal.gen_ternary-returns
-gen_ternary-returns t c = walks (built {d = c.gen_expr-3.new.context} (keeps_then (c.mark_label-2.ensures (file_of c.args.t.now)).keeps (c.assume_stack_delta.ensures (file_of c.args.t.now)).keeps).list (walked c.gen_expr-3.ensures (built {d = c.gen_expr-2.new.context} (keeps_then (c.jump.ensures (file_of c.args.t.now)).keeps (c.mark_label.ensures (file_of c.args.t.now)).keeps).list (walked c.gen_expr-2.ensures (built {d = c.gen_expr.new.context} (c.branch-context.ensures (file_of c.args.t.now)).keeps.list (walked c.gen_expr.ensures (built {d = c.args.context.now} (keeps_then (c.create_label-end.ensures (file_of c.args.t.now)).keeps (c.create_label-label.ensures (file_of c.args.t.now)).keeps).list start))))))) (ternary_arm c.args.t.now.script.layout c.args.t.now.part c.kid-condition.ensures.kid c.kid-yes.ensures.kid (c.create_label-end.ensures (file_of c.args.t.now)).does (c.create_label-label.ensures (file_of c.args.t.now)).does (rw c.kid-condition.ensures.script at c.gen_expr.ensures.does) (c.branch-context.ensures (file_of c.args.t.now)).does c.gen_expr-2.ensures.does (c.jump.ensures (file_of c.args.t.now)).does (c.mark_label.ensures (file_of c.args.t.now)).does (rw c.kid-yes.ensures.script at c.gen_expr-3.ensures.does) (c.mark_label-2.ensures (file_of c.args.t.now)).does (c.assume_stack_delta.ensures (file_of c.args.t.now)).does)
+gen_ternary-returns t c = walks (built {d = c.gen_expr-3.new.context} (keeps_then (c.mark_label-2.ensures (file_of c.args.t.now)).keeps (c.assume_stack_delta.ensures.runs (file_of c.args.t.now)).keeps).list (walked c.gen_expr-3.ensures (built {d = c.gen_expr-2.new.context} (keeps_then (c.jump.ensures (file_of c.args.t.now)).keeps (c.mark_label.ensures (file_of c.args.t.now)).keeps).list (walked c.gen_expr-2.ensures (built {d = c.gen_expr.new.context} (c.branch-context.ensures (file_of c.args.t.now)).keeps.list (walked c.gen_expr.ensures (built {d = c.args.context.now} (keeps_then (c.create_label-end.ensures.runs (file_of c.args.t.now)).keeps (c.create_label-label.ensures.runs (file_of c.args.t.now)).keeps).list start))))))) (ternary_arm c.args.t.now.script.layout c.args.t.now.part c.kid-condition.ensures.kid c.kid-yes.ensures.kid (c.create_label-end.ensures.runs (file_of c.args.t.now)).does (c.create_label-label.ensures.runs (file_of c.args.t.now)).does (rw c.kid-condition.ensures.script at c.gen_expr.ensures.does) (c.branch-context.ensures (file_of c.args.t.now)).does c.gen_expr-2.ensures.does (c.jump.ensures (file_of c.args.t.now)).does (c.mark_label.ensures (file_of c.args.t.now)).does (rw c.kid-yes.ensures.script at c.gen_expr-3.ensures.does) (c.mark_label-2.ensures (file_of c.args.t.now)).does (c.assume_stack_delta.ensures.runs (file_of c.args.t.now)).does)
 
 pub gen_unary_op-invariant_of-context : goal.gen_unary_op-invariant_of-context
 gen_unary_op-invariant_of-context t c = record { laid_out = c.args.context.now.laid_out; indexed = index_stays (c.negate_integer.ensures (file_of c.args.t.now)).keeps.pool c.args.context.now.indexed }
@@ -678,7 +672,7 @@ pub gen_unary_op-returns-in-Some-String : goal.gen_unary_op-returns-in-Some-Stri
 gen_unary_op-returns-in-Some-String t c = walks (built {d = c.gen_expr.new.context} (c.action.ensures (file_of c.args.t.now)).keeps.list (walked c.gen_expr.ensures (built {d = c.args.context.now} c.push.ensures.keeps.list start))) (rw (c.in-Sub.is, literal_of (is_node _ _ _ c.args.t.now.within c.node-node.ensures.node), ← literal_is (file_of c.args.t.now) c.node-node.result.root, ← c.literal_of.ensures, c.in-Some-String.is, c.in-Some-String.field-0-is) (minus_arm c.args.t.now.script.layout c.args.t.now.part (c.push.ensures.runs (file_of c.args.t.now) tt).does c.gen_expr.ensures.does (c.action.ensures (file_of c.args.t.now)).does))
 
 pub gen_while_loop-invariant_of-context : goal.gen_while_loop-invariant_of-context
-gen_while_loop-invariant_of-context t c = record { laid_out = c.args.context.now.laid_out; indexed = index_stays (keeps_then (c.create_label-start.ensures (file_of c.args.t.now)).keeps (keeps_then (c.create_label-end.ensures (file_of c.args.t.now)).keeps (c.mark_label.ensures (file_of c.args.t.now)).keeps)).pool c.args.context.now.indexed }
+gen_while_loop-invariant_of-context t c = record { laid_out = c.args.context.now.laid_out; indexed = index_stays (keeps_then (c.create_label-start.ensures.runs (file_of c.args.t.now)).keeps (keeps_then (c.create_label-end.ensures.runs (file_of c.args.t.now)).keeps (c.mark_label.ensures (file_of c.args.t.now)).keeps)).pool c.args.context.now.indexed }
 
 pub gen_while_loop-invariant_of-context-2 : goal.gen_while_loop-invariant_of-context-2
 gen_while_loop-invariant_of-context-2 t c = record { laid_out = c.gen_expr.new.context.laid_out; indexed = index_stays (keeps_then (c.action.ensures (file_of c.args.t.now)).keeps (c.branch-context.ensures (file_of c.args.t.now)).keeps).pool c.gen_expr.new.context.indexed }
@@ -687,7 +681,7 @@ pub gen_while_loop-invariant_of-context-3 : goal.gen_while_loop-invariant_of-con
 gen_while_loop-invariant_of-context-3 t c = record { laid_out = c.gen_statement.new.context.laid_out; indexed = index_stays (keeps_then (c.jump.ensures (file_of c.args.t.now)).keeps (c.mark_label-2.ensures (file_of c.args.t.now)).keeps).pool c.gen_statement.new.context.indexed }
 
 pub gen_while_loop-returns : goal.gen_while_loop-returns
-gen_while_loop-returns t c = walks (built {d = c.gen_statement.new.context} (keeps_then (c.jump.ensures (file_of c.args.t.now)).keeps (c.mark_label-2.ensures (file_of c.args.t.now)).keeps).list (walked c.gen_statement.ensures (built {d = c.gen_expr.new.context} (keeps_then (c.action.ensures (file_of c.args.t.now)).keeps (c.branch-context.ensures (file_of c.args.t.now)).keeps).list (walked c.gen_expr.ensures (built {d = c.args.context.now} (keeps_then (c.create_label-start.ensures (file_of c.args.t.now)).keeps (keeps_then (c.create_label-end.ensures (file_of c.args.t.now)).keeps (c.mark_label.ensures (file_of c.args.t.now)).keeps)).list start))))) (while_arm c.args.t.now.script.layout c.args.t.now.part c.kid-condition.ensures.kid (loop_of c.loop_to-inner.result) c.loop_to-inner.ensures (c.create_label-start.ensures (file_of c.args.t.now)).does (c.create_label-end.ensures (file_of c.args.t.now)).does (c.mark_label.ensures (file_of c.args.t.now)).does (rw c.kid-condition.ensures.script at c.gen_expr.ensures.does) (c.action.ensures (file_of c.args.t.now)).does (c.branch-context.ensures (file_of c.args.t.now)).does c.gen_statement.ensures.does (c.jump.ensures (file_of c.args.t.now)).does (c.mark_label-2.ensures (file_of c.args.t.now)).does)
+gen_while_loop-returns t c = walks (built {d = c.gen_statement.new.context} (keeps_then (c.jump.ensures (file_of c.args.t.now)).keeps (c.mark_label-2.ensures (file_of c.args.t.now)).keeps).list (walked c.gen_statement.ensures (built {d = c.gen_expr.new.context} (keeps_then (c.action.ensures (file_of c.args.t.now)).keeps (c.branch-context.ensures (file_of c.args.t.now)).keeps).list (walked c.gen_expr.ensures (built {d = c.args.context.now} (keeps_then (c.create_label-start.ensures.runs (file_of c.args.t.now)).keeps (keeps_then (c.create_label-end.ensures.runs (file_of c.args.t.now)).keeps (c.mark_label.ensures (file_of c.args.t.now)).keeps)).list start))))) (while_arm c.args.t.now.script.layout c.args.t.now.part c.kid-condition.ensures.kid (loop_of c.loop_to-inner.result) c.loop_to-inner.ensures (c.create_label-start.ensures.runs (file_of c.args.t.now)).does (c.create_label-end.ensures.runs (file_of c.args.t.now)).does (c.mark_label.ensures (file_of c.args.t.now)).does (rw c.kid-condition.ensures.script at c.gen_expr.ensures.does) (c.action.ensures (file_of c.args.t.now)).does (c.branch-context.ensures (file_of c.args.t.now)).does c.gen_statement.ensures.does (c.jump.ensures (file_of c.args.t.now)).does (c.mark_label-2.ensures (file_of c.args.t.now)).does)
 
 pub goto-invariant_of-context : goal.goto-invariant_of-context
 goto-invariant_of-context t c = record { laid_out = c.args.context.now.laid_out; indexed = index_stays (keeps_then c.goto_label.ensures.keeps (c.play_if.ensures (file_of c.args.t.now)).keeps).pool c.args.context.now.indexed }

@@ -1,14 +1,17 @@
 use mathlib.Core.Logic.{inl, inr}
+use Rattle.pcode.specs.Pcode.{op}
+use Rattle.pcode.specs.declared.Op.TheVariants.{NewObject, NewMethod}
+use Rattle.access.proofs.Accesses.{falls}
 use Rattle.access.proofs.Access.call_new.Goals as goal
 
 pub returns-in-Variable : goal.returns-in-Variable
-returns-in-Variable c = λ F. rw c.in-Variable.is (c.action_down.ensures F)
+returns-in-Variable c = λ F. rw c.in-Variable.is (falls (op NewObject) _ c.saturating_add.ensures (c.action_down.ensures F))
 
 pub returns-in-Object : goal.returns-in-Object
-returns-in-Object c = λ F. elim c.in-Object.is [ inl e ↦ rw e (c.action_down-in-Object.ensures F) | inr e ↦ rw e (c.action_down-in-Object.ensures F) ]
+returns-in-Object c = λ F. let x = falls (op NewMethod) _ c.saturating_add-in-Object.ensures (c.action_down-in-Object.ensures F) in elim c.in-Object.is [ inl e ↦ rw e x | inr e ↦ rw e x ]
 
 pub returns-in-SpecialProperty : goal.returns-in-SpecialProperty
-returns-in-SpecialProperty c = λ F. rw c.in-SpecialProperty.is (c.refuse.ensures F)
+returns-in-SpecialProperty c = λ F. rw c.in-SpecialProperty.is (c.refuse.ensures.runs F)
 
 pub returns-in-Register : goal.returns-in-Register
 returns-in-Register c = λ F. rw c.in-Register.is (c.call_register.ensures F)

@@ -8,7 +8,7 @@ pub returns-in-Object : goal.returns-in-Object
 returns-in-Object c = λ F. rw c.in-Object.is (c.action-in-Object.ensures F)
 
 pub returns-in-SpecialProperty : goal.returns-in-SpecialProperty
-returns-in-SpecialProperty c = λ F. rw c.in-SpecialProperty.is (c.refuse.ensures F)
+returns-in-SpecialProperty c = λ F. rw c.in-SpecialProperty.is (c.refuse.ensures.runs F)
 
 pub returns-in-Register : goal.returns-in-Register
 returns-in-Register c = λ F. rw c.in-Register.is (c.push.ensures.runs F tt)

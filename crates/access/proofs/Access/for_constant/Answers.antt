@@ -3,14 +3,14 @@ use mir.Syntax.{w32}
 use mir.ValLaws.{to_z-of_z}
 use borrow.Author.Rules.{rules}
 use Rattle.codegen_state.proofs.Steps.{returned}
-use Rattle.access.proofs.Accesses.{string, identifier, boolean}
+use Rattle.access.proofs.Accesses.{string_acts, identifier_acts, boolean}
 use Rattle.access.proofs.Access.for_constant.Goals as goal
 
 pub returns-in-String : goal.returns-in-String
-returns-in-String c = λ h t. let a = c.push_string.ensures (rw c.in-String.is at t) in record { script = a.script; same_list = a.same_list; does = string c.args.context.now.script.bytes.now c.in-String.is h t (λ x. a.does) }
+returns-in-String c = λ h t. string_acts h t c.in-String.is (search rules)
 
 pub returns-in-Identifier : goal.returns-in-Identifier
-returns-in-Identifier c = λ h t. let a = c.for_identifier.ensures (rw c.in-Identifier.is at t) in record { script = a.script; same_list = a.same_list; does = identifier c.args.context.now.script.bytes.now c.in-Identifier.is h t (λ x. a.does) }
+returns-in-Identifier c = λ h t. identifier_acts h t c.in-Identifier.is (search rules)
 
 pub returns-in-Float : goal.returns-in-Float
 returns-in-Float c = λ h t. rw c.in-Float.is (c.direct.ensures tt)

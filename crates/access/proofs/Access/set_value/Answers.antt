@@ -11,7 +11,7 @@ pub returns-in-Object : goal.returns-in-Object
 returns-in-Object c = λ F. rw c.in-Object.is (c.action-in-Object.ensures F)
 
 pub returns-in-Direct : goal.returns-in-Direct
-returns-in-Direct c = λ F. rw c.in-Direct.is (c.refuse.ensures F)
+returns-in-Direct c = λ F. rw c.in-Direct.is (c.refuse.ensures.runs F)
 
 pub returns-in-SpecialProperty : goal.returns-in-SpecialProperty
 returns-in-SpecialProperty c = λ F. rw c.in-SpecialProperty.is (c.action-in-SpecialProperty.ensures F)
