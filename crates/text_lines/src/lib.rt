@@ -1,7 +1,7 @@
 #![tactic(auto)]
 
 // The text's lines and what their bytes are written as: two hex digits for a byte; `@PART*COUNT:` for a part and COUNT more bytes of its repetition.
-ghost use Rattle.std.specs.Prelude.{◌<◌, ◌≤◌, ◌≡◌, ◌==◌, length, position, None, IfOk, IfSome, MatchOption};
+ghost use Rattle.std.specs.Prelude.{◌+◌, ◌*◌, ◌%◌, ◌<◌, ◌≤◌, ◌≡◌, ◌==◌, length, position, slice_index, EachIndex, None, IfOk, IfSome, MatchOption, option_map, option_and_then};
 ghost use Rattle.std.specs.List.{before_first, after_first};
 ghost use Rattle.text_lines.specs.Text.{hex_value};
 
@@ -59,7 +59,9 @@ fn digit(c: u8) -> Option<u8>
 }
 
 // The value of two hex digits.
-fn pair(high: u8, low: u8) -> Option<u8> {
+fn pair(high: u8, low: u8) -> Option<u8>
+    ensures { result ≡ option_and_then (λ h. option_map (λ l. h * 16 + l) (hex_value low)) (hex_value high) }
+{
     Some(digit(high)? * 16 + digit(low)?)
 }
 
@@ -93,10 +95,18 @@ fn number(text: &[u8]) -> usize
     n
 }
 
-// Fills `to` with the part, over and over.
-fn repeat(part: &[u8], to: &mut [u8]) {
-    for (byte, again) in to.iter_mut().zip(part.iter().cycle()) {
-        *byte = *again;
+// Fills `to` with the part, over and over. Each copy is of all that stands there by then, so that few are enough.
+fn repeat(part: &[u8], to: &mut [u8])
+    requires { 0 < length part.now }
+    ensures len { length to.new ≡ length to.old }
+    ensures bytes { EachIndex to.new (λ k. slice_index to.new k ≡ slice_index part.now (k % length part.now)) }
+{
+    let mut done = part.len().min(to.len());
+    to[..done].copy_from_slice(&part[..done]);
+    while done < to.len() {
+        let n = done.min(to.len() - done);
+        to.copy_within(..n, done);
+        done += n;
     }
 }
 
