@@ -13,9 +13,9 @@ use Rattle.hir.specs.declared.ExprKind.TheVariants as expr-kind
 use Rattle.hir.specs.declared.Record.TheVariants as kind
 use Rattle.pcode.specs.Pcode.{Integer}
 use Rattle.script_records.specs.declared.layout.Layout.{Layout}
+use Rattle.script_records.specs.declared.layout.Row.{Row}
 use Rattle.script_records.specs.declared.part.Part.{Part}
-use Rattle.script_records.specs.declared.part.Tree.{Tree}
-use Rattle.script_records.specs.Layout.{words_of, rows_of, layout_of, string_at}
+use Rattle.script_records.specs.Layout.{words_of, rows_of, row_in, layout_of, string_at}
 use Rattle.script_records.specs.Parts.{last_tree}
 use Rattle.decode.specs.Decode.{constant_of, record_of}
 use Rattle.script.specs.Rules as rules
@@ -29,10 +29,10 @@ use Rattle.codegen_state.specs.View.{Held, held, after}
 use Rattle.codegen_state.specs.Does.{Fine, Does}
 use Rattle.codegen_state.proofs.Steps.{after_then, after_done, stays}
 use Rattle.tree.specs.declared.Node.{Node}
-use Rattle.tree.specs.Trees.{trees, rec_of, node_of}
+use Rattle.tree.specs.Trees.{trees, rec_of, node_of, kind_at}
 use Rattle.tree.specs.Within.{Within, IsNode, constant_named, meanings_at, kid_at}
 use Rattle.tree.proofs.Nodes.{is_node, node_made, trees_more, trees_none}
-use Rattle.tree.proofs.ByKind.{kind_made}
+use Rattle.tree.proofs.ByKind.{last_kind}
 use Rattle.tree.proofs.Meanings.{kid_zero}
 use Rattle.rows.proofs.Passed.{void_root}
 use Rattle.leaves.specs.Args.{Args}
@@ -94,10 +94,10 @@ module _ {F : List ℕ} {l : Layout} {w0 : List ℕ} {p : Part} {b0 : BuilderSta
   }
 
   -- a record of the kind 32 is a constant
-  module _ (z : left.n ≡ 0 → ⊥) {t : Tree} (e : t ≡ last_tree (rows_of F l) left) (h : t.row.kind ≡ 32) {c : ConstantKind} (q : c ≡ constant_of (words_of t.row)) where
+  module _ (z : left.n ≡ 0 → ⊥) (h : kind_at F l left ≡ 32) {row : Row} (e : row ≡ row_in (rows_of F l) (left.end - 1)) {c : ConstantKind} (q : c ≡ constant_of (words_of row)) where
     root_is : (node_of F l left).root ≡ kind.Expr (expr-kind.Constant c)
-    unfolding record_of
-    root_is = ap (λ (n : Node Part). n.root) (sym (node_made F l left z e refl)) ∙ rw (q, h)
+    unfolding record_of last_tree
+    root_is = ap (λ (n : Node Part). n.root) (sym (node_made F l left z {t = last_tree (rows_of F l) left} refl refl)) ∙ rw (← e, q, last_kind F l left z e ∙ h)
 
     pub args_named : T (constant_named F c)
     args_named = rw root_is at (is_node F l left i.within refl).named
@@ -106,10 +106,10 @@ module _ {F : List ℕ} {l : Layout} {w0 : List ℕ} {p : Part} {b0 : BuilderSta
     args_constant q o k = args_again z q (rw (expr_at (is_node F l left i.within refl) false root_is) o) k
 
   -- a record of the kind 48 is a Void, which generates nothing
-  pub args_void : (left.n ≡ 0 → ⊥) → {t : Tree} → t ≡ last_tree (rows_of F l) left → t.row.kind ≡ 48 → {before : Part} → before ≡ (node_of F l left).before → Args F l w0 p b0 w before b
-  args_void z e h q =
+  pub args_void : (left.n ≡ 0 → ⊥) → kind_at F l left ≡ 48 → {before : Part} → before ≡ (node_of F l left).before → Args F l w0 p b0 w before b
+  args_void z h q =
       let g = is_node F l left i.within refl in
-      let void = void_root F l left (sym (kind_made F l left z e) ∙ h) in
+      let void = void_root F l left h in
       let nothing : (v : Held (Unit {0})) → after v ((kid_at F left 0).gen_expr false) ≡ v = λ v. rw (expr_at g false void) (after_done v) in
       rw q (record {
         same = sym (rw (reversed_more F l left g (omega (arith, z)), after_then, nothing (held F (tt {0}) b w)) refl) ∙ i.same;

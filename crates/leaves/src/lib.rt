@@ -72,22 +72,23 @@ pub fn read_constant(context: &mut ScriptContext, c: ConstantKind)
 }
 
 // Arguments run from the last to the first: the constants among the last of them are pushed here, without a call for each expression, and Voids generate
-// nothing. What is left is still to be generated.
+// nothing. What is left is still to be generated. A Void is asked for nothing but its kind, since a row may be long and have Voids alone.
 pub fn push_constants<'a>(t: &Trees<'a>, context: &mut ScriptContext) -> Trees<'a>
     requires { context.old.script ≡ t.now.script }
     ensures { Pushes t.now context.old result context.new }
 {
     for tree in *t {
+        let kind = tree.kind();
+        if kind == Kind::Void as u32 {
+            continue;
+        }
         if context.builder.state.refused.is_some() {
             return tree;
         }
-        let row = tree.script.last_tree(tree.part).row;
-        if row.kind == Kind::Void as u32 {
-            continue;
-        }
-        if row.kind != Kind::Constant as u32 {
+        if kind != Kind::Constant as u32 {
             return tree;
         }
+        let row = tree.script.known_row(tree.part.end - 1);
         read_constant(context, constant(row));
     }
     Trees {

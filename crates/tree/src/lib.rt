@@ -236,10 +236,11 @@ impl<'a> Trees<'a> {
         self.labelled_element()
     }
 
-    // The same where the last tree is a Case or a Default. Not inlined, since a node is large and most elements need none.
+    // The same where the last tree is a Case or a Default. Not inlined, since a node is large and most elements need none; by value, since by reference a loop
+    // over a row would write each of its trees to memory.
     #[inline(never)]
-    fn labelled_element(&self) -> Element
-        ensures { result ≡ element_of (node_of (file_of self.now) self.now.script.layout self.now.part).root }
+    fn labelled_element(self) -> Element
+        ensures { result ≡ element_of (node_of (file_of self.entry) self.entry.script.layout self.entry.part).root }
     {
         Element::from(self.node().root)
     }

@@ -1,4 +1,4 @@
-use mathlib.Core.Path.{refl, ◌∙◌}
+use mathlib.Core.Path.{refl, sym, ◌∙◌}
 use native.Mathlib.Omega.{arith}
 use Rattle.builder.proofs.Runs.{same_list_then}
 use Rattle.leaves.proofs.Args.{args_holds, args_named, args_constant, args_void, args_none, before_all}
@@ -12,28 +12,28 @@ loop-tree-init c = rw c.into_iter-tree-iterator.ensures.into_iter_gives (record 
   args = args_holds _ _ _ _ _ c.args.t.now.within c.args.context.now.builder.fine;
 })
 
-pub returns-then-is_some : goal.returns-then-is_some
-returns-then-is_some c = rw c.in-Some.ensures.steps.0 c.loop-tree.invariant
-
-pub loop-tree-preserved-then-row : goal.loop-tree-preserved-then-row
-loop-tree-preserved-then-row c =
+pub loop-tree-preserved-then-kind : goal.loop-tree-preserved-then-kind
+loop-tree-preserved-then-kind c =
     let i = c.loop-tree.invariant in
     let s = c.in-Some.ensures.steps in
     record {
       trees = s.2.script ∙ i.trees;
       script = i.script;
       same_list = i.same_list;
-      args = args_void i.args (omega (arith, s.1)) (rw (s.0, i.trees) at c.last_tree.ensures) c.if-row.true (rw i.trees at s.2.part);
+      args = args_void i.args (omega (arith, s.1)) (rw (s.0, i.trees) at (sym c.kind-kind.ensures ∙ c.if-kind.true)) (rw i.trees at s.2.part);
     }
 
-pub returns-then-row-2 : goal.returns-then-row-2
-returns-then-row-2 c = rw c.in-Some.ensures.steps.0 c.loop-tree.invariant
+pub returns-then-is_some : goal.returns-then-is_some
+returns-then-is_some c = rw c.in-Some.ensures.steps.0 c.loop-tree.invariant
+
+pub returns-then-kind-2 : goal.returns-then-kind-2
+returns-then-kind-2 c = rw c.in-Some.ensures.steps.0 c.loop-tree.invariant
 
 pub read_constant-requires-clause-t : goal.read_constant-requires-clause-t
 read_constant-requires-clause-t c =
     let i = c.loop-tree.invariant in
     let s = c.in-Some.ensures.steps in
-    rw (i.script ∙ c.requires) (args_named i.args (omega (arith, s.1)) (rw (s.0, i.trees) at c.last_tree.ensures) c.if-row-2.false c.constant.ensures)
+    rw (i.script ∙ c.requires) (args_named i.args (omega (arith, s.1)) (rw (s.0, i.trees) at (sym c.kind-kind.ensures ∙ c.if-kind-2.false)) (rw (s.0, i.trees) at c.known_row-row.ensures) c.constant.ensures)
 
 pub loop-tree-preserved : goal.loop-tree-preserved
 loop-tree-preserved c =
@@ -44,7 +44,7 @@ loop-tree-preserved c =
       trees = s.2.script ∙ i.trees;
       script = r.script ∙ i.script;
       same_list = same_list_then i.same_list r.same_list;
-      args = args_constant i.args (omega (arith, s.1)) (rw (s.0, i.trees) at c.last_tree.ensures) c.if-row-2.false c.constant.ensures (rw i.trees at s.2.part) (rw (i.script ∙ c.requires) at r.does) r.same_list.long;
+      args = args_constant i.args (omega (arith, s.1)) (rw (s.0, i.trees) at (sym c.kind-kind.ensures ∙ c.if-kind-2.false)) (rw (s.0, i.trees) at c.known_row-row.ensures) c.constant.ensures (rw i.trees at s.2.part) (rw (i.script ∙ c.requires) at r.does) r.same_list.long;
     }
 
 pub invariant_of-result : goal.invariant_of-result
