@@ -28,7 +28,8 @@ impl CodeBuilder<'_> {
     ghost use Rattle.builder.specs.Entries.{Marked};
     ghost use Rattle.builder.specs.Runs.{Keeps, Runs, Emits};
 
-    // Nothing is done any more; an earlier refusal stays.
+    // Nothing is done any more; an earlier refusal stays. That the words stay too is said of the builder before and after, which no type holds: here and where
+    // the counts alone change.
     pub fn refuse(&mut self, stop: Stop)
         ensures runs { (F : List ℕ) → Runs F (refuse {A = Unit {0}} (number_of stop)) self.old tt self.new }
         ensures list { self.new.list.now ≡ self.old.list.now }

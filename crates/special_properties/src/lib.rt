@@ -29,7 +29,8 @@ static NAMES: [&[u8]; 22] = [
     b"ymouse",
 ];
 
-// The number of the property whose name is an underscore and these letters: the first name that agrees, ASCII case ignored.
+// The number of the property whose name is an underscore and these letters: the first name that agrees, ASCII case ignored. No TryFrom, whose error would say no
+// more than None.
 fn number_of(letters: &[u8]) -> Option<u32>
     ensures { result ≡ get_special_property (95 ∷ letters.now) }
 {

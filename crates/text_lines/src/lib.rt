@@ -95,7 +95,8 @@ fn number(text: &[u8]) -> usize
     n
 }
 
-// Fills `to` with the part, over and over. Each copy is of all that stands there by then, so that few are enough.
+// Fills `to` with the part, over and over. Each copy is of all that stands there by then, so that few are enough; a `while`, since each takes as many bytes as it
+// can.
 fn repeat(part: &[u8], to: &mut [u8])
     requires { 0 < length part.now }
     ensures len { length to.new ≡ length to.old }
