@@ -24,11 +24,11 @@ use Rattle.script_records.proofs.LayoutLaws.{supported_high}
 use Rattle.decode.specs.Decode.{signed, is_one, plain_of, record_of, name_of, marks_of}
 use Rattle.script_records.specs.Layout.{Words}
 
-signed_low : (w : ℕ) → w < 2 ^ 31 → pos w ≡ signed w
+pub signed_low : (w : ℕ) → w < 2 ^ 31 → pos w ≡ signed w
 unfolding signed
 signed_low w h = rw (lt-ltb w (2 ^ 31) h)
 
-signed_high : (w : ℕ) → 2 ^ 31 ≤ w → negsuc (2 ^ 32 - 1 - w) ≡ signed w
+pub signed_high : (w : ℕ) → 2 ^ 31 ≤ w → negsuc (2 ^ 32 - 1 - w) ≡ signed w
 unfolding signed
 signed_high w h = rw (le-ltb w (2 ^ 31) h)
 
@@ -48,7 +48,7 @@ plain_high k h p q r =
     rw (← supported_high k (λ e. omega arith) (omega arith), le-ltb k 16 (omega arith), le-ltb k 32 (omega arith), le-ltb k 78 h, ne_eqb k 96 p, ne_eqb k 100 q, ne_eqb k 101 r)
 
 -- kinds between the statements and the expressions
-plain_gap : (k : ℕ) → 16 ≤ k → k < 32 → plain_of k ≡ kind.Other
+pub plain_gap : (k : ℕ) → 16 ≤ k → k < 32 → plain_of k ≡ kind.Other
 unfolding plain_of
 plain_gap k h l = rw (← supported_high k (λ e. omega arith) (omega arith), le-ltb k 16 h, lt-ltb k 32 l)
 
