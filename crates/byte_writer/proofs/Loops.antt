@@ -1,11 +1,11 @@
--- The loops that write a number and a pool: what is left of it, written from here on, gives the whole.
+-- The loops that write a number, bytes and a pool: what is left of it, written from here on, gives the whole.
 use Prim.Native.Nat.{ℕ, suc, ◌+◌, ◌-◌, ◌<◌, ◌≤◌, ◌/◌, ◌%◌}
-use mathlib.Core.Path.{◌≡◌, ap, ◌∙◌}
+use mathlib.Core.Path.{◌≡◌, refl, ap, ◌∙◌}
 use mathlib.Core.List.{List, [], ◌∷◌, ◌++◌, append_assoc, append-nil}
 use native.Mathlib.Omega.{arith}
-use lib.ListN.{length, set, take, length-append}
+use lib.ListN.{length, get_or, set, take, length-append}
 use borrow.Rule.Slice.PartMut.{put_mid}
-use Rattle.std.proofs.lemmas.List.{take_all, take_more_set}
+use Rattle.std.proofs.lemmas.List.{take_all, take_more, take_more_set}
 use Rattle.action_format.specs.Bytes.{word}
 use Rattle.action_format.proofs.Readers.{word_length}
 use Rattle.byte_writer.specs.Written.{written_at, Room, Wrote}
@@ -52,3 +52,15 @@ module _ (xs : List ℕ) {k : ℕ} (i rest n : ℕ) (long : length xs ≡ k) (do
       let p : put_mid at (at + length (word k n) - at) o (word k n) ≡ written_at o at (word k n) = part_is o at (word k n) r in
       rw (number_is h) (rw (word_length k n) at p) in
       record { after = rw (word_length k n); output = e; long = ap length e ∙ written_long o at (word k n) }
+
+-- bytes, the first i of which stand in xs
+
+module _ (xs bs : List ℕ) (i : ℕ) (long : length xs ≡ length bs) (done : take i xs ≡ take i bs) where
+  pub copied_next : i < length bs → take (i + 1) (set xs i (get_or bs i 0)) ≡ take (i + 1) bs
+  copied_next h = rw (take_more_set xs i (get_or bs i 0) (omega (arith, long)), take_more bs i 0 h, done)
+
+  pub copied_done : (o : List ℕ) (at : ℕ) → length bs ≤ i → Room o at bs → Wrote o at bs (at + length bs) (put_mid at (at + length bs - at) o xs)
+  copied_done o at h r =
+      let same : xs ≡ bs = rw (take_all i xs (omega (arith, long)), take_all i bs h) at done in
+      let e : put_mid at (at + length bs - at) o xs ≡ written_at o at bs = rw same (part_is o at bs r) in
+      record { after = refl; output = e; long = ap length e ∙ written_long o at bs }

@@ -31,12 +31,15 @@ impl Writer<'_> {
         self.at = end;
     }
 
+    // Byte by byte: with `copy_from_slice` the archive for C would need `memmove` from outside too, beside `memcpy` and `memset`.
     fn part(&mut self, bytes: &[u8])
         requires { HasRoom self.old bytes.now }
         ensures { Writes self.old bytes.now self.new }
     {
         let end = self.at + bytes.len();
-        self.output[self.at..end].copy_from_slice(bytes);
+        for (i, byte) in self.output[self.at..end].iter_mut().enumerate() {
+            *byte = bytes[i];
+        }
         self.at = end;
     }
 
