@@ -10,6 +10,7 @@ use lib.ListN.{length, set, take, drop, length-set, length-append}
 use lib.Seq.{sets, sets-eq, set_comm, set-set}
 use borrow.Rule.Slice.PartMut.{put_mid}
 use Rattle.script_records.specs.declared.layout.ScriptFile.{ScriptFile}
+use Rattle.action_format.specs.Bytes.{word}
 use Rattle.byte_writer.specs.declared.Writer.{Writer}
 use Rattle.byte_writer.specs.Written.{written_at, Room, Wrote}
 use Rattle.byte_writer.specs.Writer.{HasRoom, Writes}
@@ -114,6 +115,10 @@ writes_then p q = record {
 -- what is written next may name strings of the script file
 pub writes_next : {a b c : Writer} {x : List ℕ} (f : ScriptFile → List ℕ) → Writes a x b → Writes b (f b.script) c → Writes a (x ++ f a.script) c
 writes_next {b = b} {c = c} f p q = writes_then p (subst (λ (s : ScriptFile). Writes b (f s) c) p.same_script q)
+
+-- a number that is the same by arithmetic
+pub writes_number : {a b : Writer} (k : ℕ) {m : ℕ} (n : ℕ) → Writes a (word k m) b → m ≡ n → Writes a (word k n) b
+writes_number {a} {b} k n p e = subst (λ (x : ℕ). Writes a (word k x) b) e p
 
 pub has_first : (w : Writer) (x y : List ℕ) → HasRoom w (x ++ y) → HasRoom w x
 has_first w x y h = room_first w.output.now w.at x y h
