@@ -31,7 +31,7 @@ impl Writer<'_> {
         self.at = end;
     }
 
-    // Byte by byte: `copy_from_slice` would have the archive for C ask for `memmove`, which a program without the C library may not have.
+    // Byte by byte: with `copy_from_slice` the archive for C would need `memmove` from outside too, beside `memcpy` and `memset`.
     fn part(&mut self, bytes: &[u8])
         requires { HasRoom self.old bytes.now }
         ensures { Writes self.old bytes.now self.new }
