@@ -1,6 +1,5 @@
 use mathlib.Core.Path.{refl, sym, ◌∙◌}
 use native.Mathlib.Omega.{arith}
-use Rattle.builder.proofs.Runs.{same_list_then}
 use Rattle.leaves.proofs.Args.{args_holds, args_named, args_constant, args_void, args_none, before_all}
 use Rattle.leaves.proofs.push_constants.Goals as goal
 
@@ -43,7 +42,7 @@ loop-tree-preserved c =
     record {
       trees = s.2.script ∙ i.trees;
       script = r.script ∙ i.script;
-      same_list = same_list_then i.same_list r.same_list;
+      same_list = record { name = r.same_list.name ∙ i.same_list.name; long = r.same_list.long ∙ i.same_list.long };
       args = args_constant i.args (omega (arith, s.1)) (rw (s.0, i.trees) at (sym c.kind-kind.ensures ∙ c.if-kind-2.false)) (rw (s.0, i.trees) at c.known_row-row.ensures) c.constant.ensures (rw i.trees at s.2.part) (rw (i.script ∙ c.requires) at r.does) r.same_list.long;
     }
 
