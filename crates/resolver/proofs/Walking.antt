@@ -135,7 +135,7 @@ whole_position xs = ap sum (take_all (length xs) xs (omega arith))
 
 -- the numbers stay small
 
-step_room : (k : Walk) (c d b : ℕ) → Room k → (r : Walk) → stepped k c d b ≡ Some r → (r.bytes ≤ k.bytes + 131073) × (r.last ≤ r.bytes)
+pub step_room : (k : Walk) (c d b : ℕ) → Room k → (r : Walk) → stepped k c d b ≡ Some r → (r.bytes ≤ k.bytes + 131073) × (r.last ≤ r.bytes)
 step_room k c d b h r = one (eqb c 257)
   where
     Small : Walk → Type 0
@@ -202,7 +202,7 @@ module _ {F w sizes : List ℕ} {from end i : ℕ} {k : Walk} {starts : List ℕ
   walk_room = record { actions = omega (arith, v.few, v.high, s.cap); bytes = omega (arith, v.most, v.high, s.cap); last = v.last }
 
   module _ (go_on : from < i) where
-    walk_known : Known F w (i - 1)
+    pub walk_known : Known F w (i - 1)
     walk_known = s.known (i - 1) (omega (arith, v.low)) (omega (arith, v.low, v.high))
 
     abbrev is : List Item
@@ -297,7 +297,7 @@ unfolding all_clear
 clear_start {F} {w} {from} {end} s = record { low = s.order; high = omega arith; is = rw (walked_none F w end) }
 
 module _ {F w : List ℕ} {from end i : ℕ} {clear : Bool} (s : Standing F w from end) (v : ClearInv F w from end i clear) where
-  clear_known : from < i → Known F w (i - 1)
+  pub clear_known : from < i → Known F w (i - 1)
   clear_known z = s.known (i - 1) (omega (arith, v.low)) (omega (arith, v.low, v.high))
 
   pub clear_again : (z : from < i) {d : Data} → d ≡ entry_data F w (entry_at w (i - 1)) → ClearInv F w from end (i - 1) (d.clear && clear)

@@ -1,5 +1,5 @@
 // The offsets of a list's branches. Only here does a label become a position, and a position a byte offset.
-ghost use Rattle.std.specs.Prelude.{◌≡◌, List, ℕ, ◌-◌, ◌≤◌, ◌<◌, length};
+ghost use Rattle.std.specs.Prelude.{◌≡◌, List, ℕ, ◌-◌, ◌≤◌, ◌<◌, length, get_or};
 ghost use Rattle.action_format.specs.Offsets.{offset, reaches};
 ghost use Rattle.resolver.specs.Walk.{start_of, end_of, walked};
 ghost use Rattle.resolver.specs.Steps.{Standing, is_branch, offsets_at, near_at, all_near_in, ReadyList, Offsets};
@@ -9,6 +9,21 @@ use crate::passes::Places;
 use crate::walk::{actions_added, word_of};
 use pcode::{ByteOffset, Label, Position};
 use slice_words::{code, entry_at};
+
+impl Places {
+    // Two tables, of which each takes one type of number and gives another: what they share is `word_of`.
+    fn place_of(&self, l: Label) -> Position
+        ensures { result.0 ≡ get_or self.now.labels l.0 0 }
+    {
+        Position(word_of(&self.labels, l.0))
+    }
+
+    fn start_of(&self, p: Position) -> ByteOffset
+        ensures { result.0 ≡ get_or self.now.starts p.0 0 }
+    {
+        ByteOffset(word_of(&self.starts, p.0))
+    }
+}
 
 // From the byte after the branch's record, in 16 bits of two's complement. By hand and not by `wrapping_sub`: of a target more than 65,536
 // bytes back the offset is 0 by its definition, where that would give another number.

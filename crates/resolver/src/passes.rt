@@ -1,10 +1,8 @@
 // The passes over all lists, in the order in which they finish.
-ghost use Rattle.std.specs.Prelude.{◌≡◌, List, ℕ, ◌+◌, ◌≤◌, ◌<◌, length, get_or};
+ghost use Rattle.std.specs.Prelude.{◌≡◌, List, ℕ, ◌+◌, ◌≤◌, ◌<◌, length};
 ghost use Rattle.resolver.specs.Passes.{number_at, Sized, SizesTo, Tried, Passed, clear_lists};
 
 use crate::lists::Lists;
-use crate::walk::word_of;
-use pcode::{ByteOffset, Label, Position};
 use refusal::Refusal;
 
 // Tables of fixed length, since there is no heap. Of one list, where the actions begin, by their positions, and after them the list's end; and the labels' positions.
@@ -12,21 +10,6 @@ use refusal::Refusal;
 pub(crate) struct Places {
     pub starts: [u32; 4097],
     pub labels: [u32; 1024],
-}
-
-impl Places {
-    // Two tables, of which each takes one type of number and gives another: what they share is `word_of`.
-    pub(crate) fn place_of(&self, l: Label) -> Position
-        ensures { result.0 ≡ get_or self.now.labels l.0 0 }
-    {
-        Position(word_of(&self.labels, l.0))
-    }
-
-    pub(crate) fn start_of(&self, p: Position) -> ByteOffset
-        ensures { result.0 ≡ get_or self.now.starts p.0 0 }
-    {
-        ByteOffset(word_of(&self.starts, p.0))
-    }
 }
 
 // The bytes of each body, by list number, and the offset of each branch, by its entry.

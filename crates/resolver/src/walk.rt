@@ -7,7 +7,7 @@ ghost use Rattle.resolver.specs.Texts.{Known};
 ghost use Rattle.resolver.specs.Steps.{Standing, frame, stepped, Room, bodies, stepped_at, Walked, adds, placed, Placed, marked_at};
 
 use crate::lists::Lists;
-use pcode::{Label, Position};
+use pcode::{ByteOffset, Label, Position};
 use slice_words::{Entry, code, entry_at};
 
 // The most bytes of a record's data, of a record with its code and length, and of a body: the format counts data and bodies in 16 bits.
@@ -79,6 +79,14 @@ pub fn actions_added(code: u32) -> u32
     u32::from(code != code::MARK && code < code::LATER_VALUE)
 }
 
+// Where an action begins: the one place that keeps an offset under a position.
+fn set_start(starts: &mut [u32; 4097], p: Position, o: ByteOffset)
+    requires { p.0 ≤ 4096 }
+    ensures { starts.new ≡ set starts.old p.0 o.0 }
+{
+    starts[p.0 as usize] = o.0;
+}
+
 // The builder's function writes the position plus 1 into the slice, and keeps the first mark; this table is the writer's own, and the last mark counts.
 fn set_place(places: &mut [u32; 1024], l: Label, p: Position)
     ensures { places.new ≡ placed places.old l.0 p.0 }
@@ -134,10 +142,10 @@ impl Lists<'_> {
     {
         let mut k = Walk::default();
         for e in (self.start(j)..self.end(j)).rev() {
-            starts[k.actions as usize] = k.bytes;
+            set_start(starts, Position(k.actions), ByteOffset(k.bytes));
             k = self.walk_entry(e, sizes, k)?;
         }
-        starts[k.actions as usize] = k.bytes;
+        set_start(starts, Position(k.actions), ByteOffset(k.bytes));
         Some(k)
     }
 
