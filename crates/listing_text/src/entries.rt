@@ -1,5 +1,6 @@
 // The areas of a list slice (docs/LISTS.md), and what its entries say.
-use crate::names::Action;
+ghost use Rattle.std.specs.Prelude.{◌≤◌, length};
+
 use pcode::PushValue;
 use slice_words::{ENDS_AT, LABELS_AT, LIST_WORDS, POOL_AT, code};
 
@@ -9,12 +10,13 @@ pub struct Lists<'a> {
     entries: &'a [[u32; 3]],
     ends: &'a [u32],
     pub pool: &'a [u32],
+    ghost ends_bound: { length ends.now ≤ 1024 },
 }
 
-// What an entry's three words say.
+// What an entry's three words say. An action stands by its code, whose name is sought where it is printed.
 #[derive(Clone, Copy)]
 pub enum Piece {
-    Action { action: Action, operand: u32 },
+    Action { code: u32, operand: u32 },
     Function { list: u32, reference: u32 },
     Mark(u32),
     Push(Option<PushValue>),
@@ -42,7 +44,7 @@ impl From<&[u32; 3]> for Piece {
         let [code, first, second] = *words;
         match code {
             ..code::FUNCTION => Piece::Action {
-                action: Action::from(code),
+                code,
                 operand: first,
             },
             code::FUNCTION => Piece::Function {
@@ -94,7 +96,9 @@ impl<'a> Lists<'a> {
     }
 
     // Which list the top list is, in the order in which they finish: the last whose end is not 0.
-    pub fn top(self) -> usize {
+    pub fn top(self) -> usize
+        ensures { result ≤ 1023 }
+    {
         self.ends.iter().rposition(|end| *end != 0).unwrap_or(0)
     }
 }

@@ -99,7 +99,7 @@ impl<S: Source, W: Write> Printer<'_, '_, S, W> {
             write!(self.out, "{position}")?;
         }
         match piece {
-            Piece::Action { action, operand } => self.put_action(action, operand),
+            Piece::Action { code, operand } => self.put_action(Action::from(code), operand),
             Piece::Function { list, reference } => self.put_function(list, reference),
             Piece::Mark(label) => write!(self.out, "loc{label:04x}:"),
             Piece::Push(value) => {
