@@ -79,7 +79,7 @@ pub fn actions_added(code: u32) -> u32
     u32::from(code != code::MARK && code < code::LATER_VALUE)
 }
 
-// Where an action begins: the one place that keeps an offset under a position.
+// Where an action begins: the one place that keeps an offset under a position. Each table asks for its own bound of a position, which alone may be any number.
 fn set_start(starts: &mut [u32; 4097], p: Position, o: ByteOffset)
     requires { p.0 ≤ 4096 }
     ensures { starts.new ≡ set starts.old p.0 o.0 }
