@@ -110,7 +110,7 @@ module _ (p pool : ℕ) (d : Bytes) where
 abbrev pooled : List Bytes → Record
 pooled ss = alone (simple (ConstantPool ss))
 
-many_length : {A : Type 0} {p : P A} {f : A → Bytes} → Reads p (λ x w. w ≡ f x) → (n : ℕ) (b r : Bytes) (xs : List A) → read_many p n b ≡ some (xs, r) → length xs ≡ n
+pub many_length : {A : Type 0} {p : P A} {f : A → Bytes} → Reads p (λ x w. w ≡ f x) → (n : ℕ) (b r : Bytes) (xs : List A) → read_many p n b ≡ some (xs, r) → length xs ≡ n
 many_length h n b r xs e = ((reads_many h n).run b xs r e).fact.1
 
 module _ (p pool : ℕ) (d : Bytes) {r : Bytes} {k : ℕ} (b : some (k, r) ≡ word_reader 2 d) where

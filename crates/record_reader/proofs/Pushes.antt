@@ -72,7 +72,7 @@ pub record Values (d : Bytes) (pool next : ℕ) (fits : Bool) (count : ℕ) : Ty
   pub from : count ≤ next
   pub to : next ≤ length d
 
-after_one : {A : Type 0} (o : math.Option (List A × Bytes)) (pre : List A) (v : A) →
+pub after_one : {A : Type 0} (o : math.Option (List A × Bytes)) (pre : List A) (v : A) →
     bind (bind o (λ xs. pure (v ∷ xs))) (λ xs. pure (pre ++ xs)) ≡ bind o (λ xs. pure ((pre ++ (v ∷ [])) ++ xs))
 after_one none pre v = refl
 after_one (some x) pre v = rw (append_assoc pre (v ∷ []) x.0)
