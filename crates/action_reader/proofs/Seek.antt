@@ -7,8 +7,12 @@ use native.Mathlib.Omega.{arith}
 use native.Mathlib.Decide.{dec_lt}
 use lib.ListN.{length, get_or}
 use borrow.Author.Tests.{eq-eqb, ne_eqb}
+use Rattle.std.specs.Prelude.{None, Err}
+use Rattle.std.specs.List.Sorted.{IsBinarySearchResult}
+use Rattle.std.specs.Ordering.{nat_cmp}
+use Rattle.std.proofs.lemmas.List.Sorted.{searched}
 use Rattle.action_reader.specs.Walk.{seek}
-use Rattle.action_reader.specs.Places.{Rises}
+use Rattle.action_reader.specs.Places.{Rises, IsSeek}
 
 -- what is at index i and nowhere before
 seek_at : (x : ℕ) (xs ys : List ℕ) (i : ℕ) → i < length xs → ((j : ℕ) → j < i → get_or xs j 0 < x) → get_or xs i 0 ≡ x → seek x (xs ++ ys) ≡ some i
@@ -61,3 +65,7 @@ rest_of ps x i h k l e = go (dec_lt k i)
     go : Dec (k < i) → ⊥
     go (yes z) = omega (arith, h.1 k z, e)
     go (no z) = omega (arith, h.2 k (omega arith) l, e)
+
+-- neither an action's position nor where the list stops: whatever the index that the search gives
+pub found_nowhere : (ps : List ℕ) (stop x i : ℕ) → Rises ps → IsBinarySearchResult (λ y. nat_cmp y x) ps (Err i) → (x ≡ stop → ⊥) → IsSeek ps stop x None
+found_nowhere ps stop x i o h e = rw (seek_nowhere ps stop x (rest_of _ _ _ (searched ps x (Err i) h (rises_all _ o))) e)

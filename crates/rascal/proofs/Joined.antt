@@ -26,7 +26,6 @@ use Rattle.definition.proofs.Ways.{lowered_by}
 use Rattle.as2_codegen.specs.Lowering.{Lowers}
 use Rattle.resolver.specs.Lowered.{Lowered}
 use Rattle.std.specs.Prelude.{Result, Ok, Err, IfOk}
-use Rattle.std.specs.Result.{is_err}
 use Rattle.refusal.specs.declared.Refusal.{Refusal}
 use Rattle.refusal.specs.Refusal.{number_of, refusal_of}
 use Rattle.action_reader.specs.Answers.{length_of}
@@ -119,19 +118,11 @@ module _ (F w : List ℕ) (h : Lowered F w) (n room : ℕ) (long : 16384 ≤ n) 
   }
 
   module _ (r : Result ℕ Refusal) (out : List ℕ) (left : Leaves outcome room r out) where
-    pub when_written : is_err r ≡ false → length w ≡ n → Compiles limits01 F n room (refusal_of r) (length_of r) out w
-    when_written e l = go r left e
-      where
-        go : (x : Result ℕ Refusal) → Leaves outcome room x out → is_err x ≡ false → Compiles limits01 F n room (refusal_of x) (length_of x) out w
-        go (Ok k) h q = wrote_bytes k out h.number h.count h.whole l
-        go (Err k) h q = cc
+    pub when_written : {k : ℕ} → r ≡ Ok k → length w ≡ n → Compiles limits01 F n room 0 k out w
+    when_written {k} e l = let h = rw e at left in wrote_bytes k out h.number h.count h.whole l
 
-    pub when_refused : is_err r ≡ true → Compiles limits01 F n room (refusal_of r) (length_of r) out (zeros_of n)
-    when_refused e = go r left e
-      where
-        go : (x : Result ℕ Refusal) → Leaves outcome room x out → is_err x ≡ true → Compiles limits01 F n room (refusal_of x) (length_of x) out (zeros_of n)
-        go (Ok k) h q = cc
-        go (Err k) h q = refused_writing (number_of k) out h.number h.count h.whole
+    pub when_refused : {e : Refusal} → r ≡ Err e → Compiles limits01 F n room (number_of e) 0 out (zeros_of n)
+    when_refused {e} q = let h = rw q at left in refused_writing (number_of e) out h.number h.count h.whole
 
 -- by the answer of lowering
 module _ (F : List ℕ) (n : ℕ) (w : List ℕ) (r : Result (Unit {0}) Refusal) (l : Lowers limits01 F n r w) where

@@ -21,11 +21,13 @@ fn write_lists(file: &[u8], list: &mut [u32], output: &mut [u8]) -> Result<usize
     requires in_bounds { 16384 ≤ length list.old }
     ensures { Compiles limits01 file.now (length list.old) (length output.old) (refusal_of result) (length_of result) output.new list.new }
 {
-    let written = write(file, list, output);
-    if written.is_err() {
-        clear_words(list);
+    match write(file, list, output) {
+        Ok(n) => Ok(n),
+        Err(refused) => {
+            clear_words(list);
+            Err(refused)
+        }
     }
-    written
 }
 
 // How many bytes were written, or the refusal.

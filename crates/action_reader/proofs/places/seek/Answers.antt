@@ -1,6 +1,7 @@
-use Rattle.std.proofs.Common.{Ok, Err}
+use Rattle.std.proofs.Common.{Ok, Err, ◌∙◌}
 use Rattle.std.proofs.lemmas.List.Sorted.{searched}
-use Rattle.action_reader.proofs.Seek.{seek_there, seek_stop, seek_nowhere, rises_all, rest_of}
+use borrow.Author.Rules.{rules}
+use Rattle.action_reader.proofs.Seek.{seek_there, seek_stop, found_nowhere, rises_all, rest_of}
 use Rattle.action_reader.proofs.places.seek.Goals as goal
 
 pub returns-in-Ok : goal.returns-in-Ok
@@ -14,6 +15,4 @@ returns-in-Err c =
     rw (seek_stop c.args.positions.now c.args.stop c.args.x (rest_of _ _ _ h) c.if-x-stop.true)
 
 pub returns-in-Err-2 : goal.returns-in-Err-2
-returns-in-Err-2 c =
-    let h = searched c.args.positions.now c.args.x (Err c.in-Err-2.field-0) c.in-Err-2.ensures.position (rises_all _ c.requires.rises) in
-    rw (seek_nowhere c.args.positions.now c.args.stop c.args.x (rest_of _ _ _ h) c.if-x-stop.false)
+returns-in-Err-2 c = search rules ∙ found_nowhere _ _ _ _ c.requires.rises c.in-Err-2.ensures.position c.if-x-stop.false
