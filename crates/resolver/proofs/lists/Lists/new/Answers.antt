@@ -12,6 +12,6 @@ invariant_of-result c = record {
   bytes = rw c.new-script.ensures.bytes (λ i. omega (arith, c.type_inv.file i));
   ready = rw c.new-script.ensures.bytes (record { layout = c.new-script.ensures.layout; accepted = c.requires.accepted });
   short = rw c.new-script.ensures.bytes (accepted_short c.args.file.now c.requires.accepted);
-  counted = c.count_lists-count.ensures;
+  counted = omega (arith, c.count_lists-count.ensures);
   stands = rw c.new-script.ensures.bytes (stands c.requires (λ i. omega (arith, c.type_inv.file i)));
 }
